@@ -1,0 +1,62 @@
+// Bytes and numbers, for every crate above: total helpers, which ask nothing of their callers.
+// Start at specs/Bytes.antt, which says what a number in a slice is; specs/Tests.antt has the set that answers most proofs.
+ghost use mathlib.Core.Path.{_≡_};
+ghost use Prim.Native.Nat.{_+_, _*_, _-_, min};
+ghost use lib.ListN.{length, take, drop};
+ghost use Rattle.base.specs.Bytes.{byteAt, number16, number32, partOf, LiesAt};
+
+// The byte at a place, and 0 past the end.
+pub fn byte_at(s: &[u8], i: usize) -> u8
+    ensures { λ r. ⌜ r ≡ byteAt (now (s .entry)) i ⌝ }
+{
+    if i < s.len() { s[i] } else { 0 }
+}
+
+// The number of two bytes, most significant first.
+pub fn join8(high: u8, low: u8) -> u16
+    ensures { λ r. ⌜ r ≡ high * 256 + low ⌝ }
+{
+    (high as u16) * 256 + (low as u16)
+}
+
+// The number of two numbers of two bytes, most significant first.
+pub fn join16(high: u16, low: u16) -> u32
+    ensures { λ r. ⌜ r ≡ high * 65536 + low ⌝ }
+{
+    (high as u32) * 65536 + (low as u32)
+}
+
+// The number of two bytes at a place; bytes past the end count as 0.
+pub fn number16_at(s: &[u8], i: u32) -> u16
+    ensures { λ r. ⌜ r ≡ number16 (now (s .entry)) i ⌝ }
+{
+    let at = i as usize;
+    join8(byte_at(s, at), byte_at(s, at + 1))
+}
+
+// The number of four bytes at a place; bytes past the end count as 0.
+pub fn number32_at(s: &[u8], i: u32) -> u32
+    ensures { λ r. ⌜ r ≡ number32 (now (s .entry)) i ⌝ }
+{
+    let at = i as usize;
+    let high = join8(byte_at(s, at), byte_at(s, at + 1));
+    let low = join8(byte_at(s, at + 2), byte_at(s, at + 2 + 1));
+    join16(high, low)
+}
+
+// The smaller of two numbers.
+pub fn least(a: usize, b: usize) -> usize
+    ensures { λ r. ⌜ r ≡ min a b ⌝ }
+{
+    if a < b { a } else { b }
+}
+
+// The part from one place up to another; what lies past the end is left out.
+pub fn part(s: &[u8], from: usize, to: usize) -> &[u8]
+    ensures holds { λ r. ⌜ now r ≡ partOf from to (now (s .entry)) ⌝ }
+    ensures lies { λ r. ⌜ LiesAt (s .entry) (min from (min to (length (now (s .entry))))) r ⌝ }
+{
+    let end = least(to, s.len());
+    let start = least(from, end);
+    &s[start..end]
+}

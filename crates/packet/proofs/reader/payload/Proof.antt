@@ -1,0 +1,39 @@
+use Prim.Native.Nat.{ℕ, _+_, min}
+use mathlib.Core.Path.{_≡_, ap, _∙_}
+use native.Mathlib.Omega.{arith}
+use lib.ListN.{length, drop}
+use Rattle.base.proofs.Parts.{part-to-end}
+use Rattle.packet.specs.Packet.{payload, payloadAt}
+use borrow.Author.Needs.{needs}
+use Rattle.packet.proofs.reader.payload.Statement.{statement}
+use Rattle.packet.proofs.reader.payload.Tie as tie
+use Rattle.packet.proofs.reader.payload.Reads as reads
+use Rattle.packet.proofs.reader.payload.Lts as lts
+use Rattle.base.proofs.part.Reads as part-reads
+use Rattle.packet.proofs.frame.payload_at.Reads as payload-at-reads
+
+-- src/reader.rt:60:13
+payload-at-requires : tie.Need-payload-at-requires
+payload-at-requires c κs = search needs
+
+-- src/reader.rt:60:13
+cast-part : tie.Need-cast-part
+cast-part c = search needs
+
+-- src/reader.rt:60:5
+part-requires : tie.Need-part-requires
+part-requires c κs = search needs
+
+-- src/reader.rt:56:1
+returns : tie.Need-returns
+unfolding payload
+returns c =
+    let a = c .before .before .before .args in
+    let at : c .before .payload-at .result ≡ payloadAt (a .p .now) = c .before .payload-at .ensures in
+    let start : min (c .before .payload-at .result) (min (length (a .p .now)) (length (a .p .now))) ≡ min (payloadAt (a .p .now)) (length (a .p .now)) = omega arith in (
+      c .part .ensures .0 ∙ part-to-end (a .p .now) (c .before .payload-at .result) ∙ ap (λ (n : ℕ). drop n (a .p .now)) at,
+      (c .part .ensures .1 .0, c .part .ensures .1 .1 ∙ ap (λ (n : ℕ). n + a .p .ptr .1) start),
+    )
+
+pub payload-spec : {M : Type 1} → statement M
+payload-spec = tie.close (tie.spec payload-at-requires cast-part part-requires returns)

@@ -1,0 +1,138 @@
+-- 01, The packet: "Items follow." What the bytes after the first two may hold.
+use Prim.Native.Nat.{ℕ}
+use mathlib.Core.Bool.{Bool, true, false, cond, not, _&&_, _||_}
+use mathlib.Core.List.{List, [], _∷_}
+use lib.Dec.{ltb, leb, eqb}
+use Rattle.base.specs.Bytes.{bits}
+use Rattle.packet.specs.declared.message.Direction.{Direction}
+use Rattle.packet.specs.declared.message.Direction.the-variants.{Tx, Rx}
+use Rattle.packet.specs.declared.message.SqiItem.{SqiItem}
+use Rattle.packet.specs.declared.message.SqiItem.the-variants as sqi
+use Rattle.packet.specs.declared.message.ClimaxItem.{ClimaxItem}
+use Rattle.packet.specs.declared.message.ClimaxItem.the-variants as climax
+use Rattle.packet.specs.declared.message.SideItem.{SideItem}
+use Rattle.packet.specs.declared.message.SideItem.the-variants as side
+use Rattle.packet.specs.declared.message.Items.{Items}
+
+pub record Item : Type 0 where
+  pub type : ℕ
+  pub value : ℕ
+
+-- The items found one behind the other, or bytes that are no run of items.
+pub data Found : Type 0 where
+  found : List Item → Found
+  broken : Found
+
+abbrev pub behind : Item → Found → Found
+behind i (found is) = found (i ∷ is)
+behind i broken = broken
+
+unfoldable pub allZero : List ℕ → Bool
+allZero [] = true
+allZero (b ∷ bs) = eqb b 0 && allZero bs
+
+-- "An item is one byte (type in the high half, length 1 in the low half) and one value byte."
+abbrev pub itemType : ℕ → ℕ
+itemType head = bits 8 0 4 head
+
+abbrev pub itemLength : ℕ → ℕ
+itemLength head = bits 8 4 4 head
+
+-- ".. a zero byte where an item would begin ends them, and all bytes after it are zero."
+unfoldable pub itemsIn : List ℕ → Found
+itemsIn [] = found []
+itemsIn (head ∷ []) = cond (eqb head 0) (found []) broken
+itemsIn (head ∷ value ∷ rest) =
+    cond (eqb head 0) (cond (allZero (value ∷ rest)) (found []) broken)
+    (cond (eqb (itemLength head) 1) (behind (record { type = itemType head; value = value }) (itemsIn rest)) broken)
+
+-- "1 SQI | RX | quality in the high 5 bits; method in the low 3: 0 RSSI, 1 AGC, 2 C/N, 3 PSD.
+-- With RSSI quality is 0 to 15, else 0 to 31"
+abbrev pub quality : ℕ → ℕ
+quality value = bits 8 0 5 value
+
+abbrev pub method : ℕ → ℕ
+method value = bits 8 5 3 value
+
+abbrev pub rssi : ℕ
+rssi = 0
+
+abbrev pub sqiAllowed : (quality method : ℕ) → Bool
+sqiAllowed q m = leb m 3 && leb q (cond (eqb m rssi) 15 31)
+
+-- "2 CLIMAX | TX | high bit 1; low 7 bits the delay in ms divided by 2"
+abbrev pub delay : ℕ → ℕ
+delay value = bits 8 1 7 value
+
+abbrev pub climaxAllowed : ℕ → Bool
+climaxAllowed value = eqb (bits 8 0 1 value) 1
+
+-- "5 main/standby | both | high bit 0 main, 1 standby; the rest 0"
+abbrev pub sideAllowed : ℕ → Bool
+sideAllowed value = eqb (bits 8 1 7 value) 0
+
+abbrev pub sideOf : ℕ → SideItem
+sideOf value = cond (eqb (bits 8 0 1 value) 1) side.Standby side.Main
+
+abbrev pub inTx : Direction → Bool
+inTx Tx = true
+inTx Rx = false
+
+abbrev pub inRx : Direction → Bool
+inRx d = not (inTx d)
+
+-- The table of items. "Every other type is refused, type 4 (DDC) too, as 000 gives no layout for it."
+unfoldable pub itemAllowed : Direction → Item → Bool
+itemAllowed d i =
+    (eqb (i .type) 1 && inRx d && sqiAllowed (quality (i .value)) (method (i .value)))
+    || (eqb (i .type) 2 && inTx d && climaxAllowed (i .value))
+    || (eqb (i .type) 5 && sideAllowed (i .value))
+
+unfoldable pub allAllowed : Direction → List Item → Bool
+allAllowed d [] = true
+allAllowed d (i ∷ is) = itemAllowed d i && allAllowed d is
+
+-- "No type comes twice; any order is read."
+unfoldable pub hasType : ℕ → List Item → Bool
+hasType t [] = false
+hasType t (i ∷ is) = eqb (i .type) t || hasType t is
+
+unfoldable pub noTypeTwice : List Item → Bool
+noTypeTwice [] = true
+noTypeTwice (i ∷ is) = not (hasType (i .type) is) && noTypeTwice is
+
+abbrev pub someItem : List Item → Bool
+someItem [] = false
+someItem (i ∷ is) = true
+
+unfoldable pub runAllowed : Direction → Found → Bool
+runAllowed d broken = false
+runAllowed d (found is) = someItem is && allAllowed d is && noTypeTwice is
+
+-- "X = 0: all remaining bytes are zero. X = 1: at least one item"
+unfoldable pub itemsAllowed : Direction → (x : ℕ) → List ℕ → Bool
+itemsAllowed d x bytes = cond (eqb x 0) (allZero bytes) (runAllowed d (itemsIn bytes))
+
+abbrev pub listed : Found → List Item
+listed (found is) = is
+listed broken = []
+
+-- The items of a packet, in the order in which they stand.
+unfoldable pub itemsOf : (x : ℕ) → List ℕ → List Item
+itemsOf x bytes = cond (eqb x 0) [] (listed (itemsIn bytes))
+
+-- What a message keeps of them.
+unfoldable pub sqiAmong : List Item → SqiItem
+sqiAmong [] = sqi.Absent
+sqiAmong (i ∷ is) = cond (eqb (i .type) 1) (sqi.Is (quality (i .value)) (method (i .value))) (sqiAmong is)
+
+unfoldable pub climaxAmong : List Item → ClimaxItem
+climaxAmong [] = climax.Absent
+climaxAmong (i ∷ is) = cond (eqb (i .type) 2) (climax.Is (delay (i .value))) (climaxAmong is)
+
+unfoldable pub sideAmong : List Item → SideItem
+sideAmong [] = side.Absent
+sideAmong (i ∷ is) = cond (eqb (i .type) 5) (sideOf (i .value)) (sideAmong is)
+
+unfoldable pub kept : List Item → Items
+kept is = record { sqi = sqiAmong is; climax = climaxAmong is; side = sideAmong is }

@@ -1,0 +1,24 @@
+// The packet of document 01: messages, readers, refusals.
+// Start at specs/Packet.antt, Items.antt, Refusals.antt and Reading.antt, which say in 01's order what the public
+// functions promise; then reader.rt. Private: frame.rt (refusals 1 to 9), items.rt (11).
+mod frame;
+mod items;
+pub mod message;
+pub mod reader;
+pub mod refusal;
+
+pub use message::ClimaxItem;
+pub use message::Direction;
+pub use message::Rx;
+pub use message::SideItem;
+pub use message::SqiItem;
+pub use message::Tx;
+pub use reader::RxRead;
+pub use reader::TxRead;
+pub use reader::audio_length;
+pub use reader::payload;
+pub use reader::read_rx;
+pub use reader::read_tx;
+pub use refusal::Refusal;
+pub use refusal::cause;
+pub use refusal::number;

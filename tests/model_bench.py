@@ -1,0 +1,308 @@
+"""Document 01's bench: its calls, who is on the air, reports. Part of the model, see model.py."""
+
+from dataclasses import dataclass
+
+from model_packet import *
+
+
+# ---- The bench and its calls
+
+IDLE, RXONLY, TXRX, COUPLING_CALL = "idle", "rxonly", "txrx", "coupling"
+
+
+@dataclass(frozen=True)
+class Setup:
+    # "Set-up: which seats are lesson seats (the others are live), the extension type, single radio
+    #  or pair, equal-rank mode (lockout or summation), coupling mode (interruption or summation)."
+
+    lessons: frozenset = frozenset({7, 8})
+    ext: int = 0x0167
+    pair: bool = True
+    equal_rank: str = "lockout"
+    coupling: str = "interruption"
+
+
+@dataclass
+class Seat:
+    """An open seat."""
+
+    number: int
+    call: str
+    period: int
+    multiplier: int
+    report_ssrc: int
+    report_sequence: int
+    left: int  # ms until it is closed by silence
+    since_due: int = 0  # ms ticked since its period last ran out
+    # "A seat just opened has heard nothing; its last field counts as all zero without items."
+    heard: bool = False
+    ssrc: int = None
+    sequence: int = None
+    last: Field = Field()
+    keying_began: int = None
+
+    @property
+    def own_id(self):
+        # "The answer is its own ptt-id: the seat number for TxRx and Coupling, else 0."
+        return self.number if self.call in (TXRX, COUPLING_CALL) else 0
+
+
+@dataclass(frozen=True)
+class PacketAnswer:
+    missing: int
+    reply: bool
+    side: int
+    audio: bytes
+
+
+@dataclass(frozen=True)
+class TickAnswer:
+    closed: tuple
+    due: tuple
+
+
+def keyed(field):
+    # "PTT on and PM 0"
+    return field.ptt != OFF and field.pm == 0
+
+
+def distance(last, new):
+    # "new sequence minus last accepted, taken modulo 65536 into -32768 to 32767"
+    return (new - last + 32768) % 65536 - 32768
+
+
+# "Rank: Test, Coupling, Normal, Priority, Emergency, lowest first."
+RANKS = [TEST, COUPLING, NORMAL, PRIORITY, EMERGENCY]
+
+
+class Bench:
+    def __init__(self, setup):
+        # "At the start no seat is open, main is in use, the transmitter is healthy, no signal is received."
+        self.setup = setup
+        self.seats = {n: None for n in range(1, 9)}
+        self.side_in_use = MAIN
+        self.healthy = True
+        self.signals = 0
+        self.level = 0
+        self.keyings = 0  # how many keyings have begun; Python's numbers don't run out
+
+    # -- seats
+
+    def no_such_seat(self, n):
+        # 13: "seat not 1 to 8"
+        return not 1 <= n <= 8
+
+    def not_open(self, n):
+        # 14: "seat not open"
+        return self.seats[n] is None
+
+    def lesson(self, n):
+        return n in self.setup.lessons
+
+    def open(self, n, call, period, multiplier, ssrc, sequence):
+        # "Open 13, 15 to 18."
+        refused = first_refusal(
+            (13, lambda: self.no_such_seat(n)),
+            # 15: "seat open already"
+            (15, lambda: not self.not_open(n)),
+            # 16: "period or multiplier": "R2S period 20 to 1000 ms, multiplier 2 to 50"
+            (16, lambda: not (20 <= period <= 1000 and 2 <= multiplier <= 50)),
+            # 17: "lesson seat asks Coupling"
+            (17, lambda: self.lesson(n) and call == COUPLING_CALL),
+            # 18: "Coupling asked while another seat is Coupling": by its call type
+            (18, lambda: call == COUPLING_CALL and any(s and s.call == COUPLING_CALL for s in self.seats.values())),
+        )
+        if refused:
+            return refused
+        # "Opening and each accepted packet set a seat's time left to period times multiplier ms."
+        self.seats[n] = Seat(n, call, period, multiplier, ssrc, sequence, left=period * multiplier)
+        return self.seats[n].own_id
+
+    def close(self, n):
+        # "Close 13, 14."
+        refused = first_refusal((13, lambda: self.no_such_seat(n)), (14, lambda: self.not_open(n)))
+        if refused:
+            return refused
+        # "It can be opened again at once."
+        self.seats[n] = None
+        return None
+
+    # -- packets
+
+    def packet(self, n, data):
+        # "Packet 13, 14, 1 to 12, 19 to 23."
+        refused = first_refusal((13, lambda: self.no_such_seat(n)), (14, lambda: self.not_open(n)))
+        if refused:
+            return refused
+        message = read(TX, self.setup.ext, data)
+        if isinstance(message, Refused):
+            return message
+        seat, new = self.seats[n], message.field
+        refused = first_refusal(
+            # "The first accepted packet fixes the seat's SSRC and has 0 missing."
+            # 19: "other SSRC"
+            (19, lambda: seat.heard and message.ssrc != seat.ssrc),
+            # 20: "distance 0 or below"
+            (20, lambda: seat.heard and distance(seat.sequence, message.sequence) <= 0),
+            (21, lambda: self.keying_forbidden(seat, new)),
+            # 22: "ptt-id not the seat's own; with PTT off 0 also passes"
+            (22, lambda: new.id != seat.own_id and not (new.ptt == OFF and new.id == 0)),
+            # 23: "main/standby item .. on a single radio; main/standby item from a lesson seat"
+            (23, lambda: new.side is not None and (not self.setup.pair or self.lesson(n))),
+        )
+        if refused:
+            return refused
+
+        # "After that the distance is new sequence minus last accepted, ..; distance minus 1 packets are missing."
+        missing = distance(seat.sequence, message.sequence) - 1 if seat.heard else 0
+
+        # "Reply now exactly when the field with its items differs in meaning from the seat's previous accepted one."
+        old = seat.last
+        reply = new != old
+
+        # "A main/standby item takes effect, setting the side in use, only where that seat's previous
+        #  accepted packet carried the other value or no such item. Repeats do nothing."
+        if new.side is not None and new.side != old.side:
+            self.side_in_use = new.side
+
+        # "A keying begins at the packet that brought the seat from off, muted or another type"
+        if keyed(new) and not (keyed(old) and old.ptt == new.ptt):
+            self.keyings += 1
+            seat.keying_began = self.keyings
+
+        seat.heard, seat.ssrc, seat.sequence, seat.last = True, message.ssrc, message.sequence, new
+        # "Opening and each accepted packet set a seat's time left to period times multiplier ms."
+        seat.left = seat.period * seat.multiplier
+
+        # "An accepted audio packet's payload is sent, to the side in use, exactly if its seat is on the air after it."
+        audio = message.audio if n in self.on_the_air() else b""
+        return PacketAnswer(missing, reply, self.side_in_use, audio)
+
+    def keying_forbidden(self, seat, field):
+        # 21: "PTT on for Idle or Rxonly; Coupling PTT for TxRx; lesson seat with PTT on other than Test"
+        if field.ptt == OFF:
+            return False
+        if seat.call in (IDLE, RXONLY):
+            return True
+        if seat.call == TXRX and field.ptt == COUPLING:
+            return True
+        return self.lesson(seat.number) and field.ptt != TEST
+
+    # -- time
+
+    def tick(self, ms):
+        # "Tick 24.": "elapsed above 1000"
+        if ms > 1000:
+            return Refused(24)
+        closed, due = [], []
+        for n, seat in self.seats.items():
+            if seat is None:
+                continue
+            # "A tick takes its ms from that; the seat is closed if nothing is left."
+            seat.left -= ms
+            if seat.left <= 0:
+                self.seats[n] = None
+                closed.append(n)
+                # "A closed seat isn't due."
+                continue
+            # "A seat is due when its period, counted from opening, runs out; several in one tick count once
+            #  and the phase is kept."
+            seat.since_due += ms
+            if seat.since_due >= seat.period:
+                seat.since_due %= seat.period
+                due.append(n)
+        return TickAnswer(tuple(closed), tuple(due))
+
+    # -- radio events
+
+    def received(self, count, level):
+        # "signals received (0 to 255) with a level in whole dBm"; "the other events are never refused"
+        self.signals, self.level = count, level
+
+    def transmitter(self, healthy):
+        self.healthy = healthy
+
+    def side(self, side):
+        # "Side event 23": "side event on a single radio"
+        if not self.setup.pair:
+            return Refused(23)
+        self.side_in_use = side
+        return None
+
+    # -- who is on the air
+
+    def taking_part(self):
+        # "If the transmitter is unhealthy, nobody does."
+        if not self.healthy:
+            return []
+        # "An open seat takes part if its last accepted packet since opening has PTT on and PM 0;
+        #  a closed seat never does."
+        return [seat for seat in self.seats.values() if seat and keyed(seat.last)]
+
+    def top_type(self):
+        """The type of the top rank among those who take part, or off."""
+        types = [seat.last.ptt for seat in self.taking_part()]
+        return max(types, key=RANKS.index) if types else OFF
+
+    def on_the_air_at_the_top(self):
+        top = [seat for seat in self.taking_part() if seat.last.ptt == self.top_type()]
+        # "At the top rank, lockout puts on the air the seat whose present keying began first; summation, all of them."
+        if self.setup.equal_rank == "lockout" and top:
+            top = [min(top, key=lambda seat: seat.keying_began)]
+        return [seat.number for seat in top]
+
+    def on_the_air(self):
+        air = self.on_the_air_at_the_top()
+        # "With coupling summation a participant keyed Coupling is added when the top rank is above Coupling."
+        if self.setup.coupling == "summation" and self.top_type() in (NORMAL, PRIORITY, EMERGENCY):
+            air += [seat.number for seat in self.taking_part() if seat.last.ptt == COUPLING]
+        return sorted(air)
+
+    # -- reports
+
+    def report(self, n, timestamp, audio, room):
+        # "Report 13, 14, 25, 26."
+        squ = 1 if self.signals >= 1 else 0
+        refused = first_refusal(
+            (13, lambda: self.no_such_seat(n)),
+            (14, lambda: self.not_open(n)),
+            # 25: "report audio not 0, 80, 160 or 240 bytes, or audio while SQU is 0"
+            (25, lambda: len(audio) not in (0, 80, 160, 240) or (len(audio) > 0 and squ == 0)),
+        )
+        if refused:
+            return refused
+        seat = self.seats[n]
+        message = Message(seat.report_sequence, timestamp, seat.report_ssrc, self.told(seat))
+        # "The report is type 8 if audio is given, else 123."
+        packet = write(RX, self.setup.ext, message, audio, room)
+        if isinstance(packet, Refused):
+            return packet
+        # "Its sequence goes up by one, wrapping, with each report written."
+        seat.report_sequence = (seat.report_sequence + 1) % 65536
+        return packet
+
+    def told(self, seat):
+        # "Report to a seat."
+        air, top = self.on_the_air(), self.on_the_air_at_the_top()
+        # "PTT type: the top type, or off."
+        ptt = self.top_type()
+        # "ptt-id: 0 if off; the seat's own if it is on the air at the top rank; else the smallest on the air
+        #  at the top rank."
+        if ptt == OFF:
+            ptt_id = 0
+        elif seat.number in top:
+            ptt_id = seat.own_id
+        else:
+            ptt_id = min(self.seats[n].own_id for n in top)
+        # "PM: the seat's own last PM."
+        pm = seat.last.pm
+        # "PTTS: 1 if two or more seats are on the air, or a seat on the air last sent PTTS 1."
+        ptts = 1 if len(air) >= 2 or any(self.seats[n].last.ptts == 1 for n in air) else 0
+        # "SQU: 1 signal or more. SCT: 2 or more."
+        squ = 1 if self.signals >= 1 else 0
+        sct = 1 if self.signals >= 2 else 0
+        # "SQI item, method RSSI, exactly if SQU is 1"
+        sqi = (quality(self.level), RSSI) if squ == 1 else None
+        # "Main/standby item, with the side in use, exactly for a pair."
+        side = self.side_in_use if self.setup.pair else None
+        return Field(ptt, squ, ptt_id, pm, ptts, sct, sqi, None, side)

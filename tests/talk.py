@@ -1,0 +1,94 @@
+"""Console sessions as they are written down: each line is tried on the model and kept with its answer."""
+
+import console
+import model
+from model import OFF
+
+PAIR = "setup 78 0167 pair lockout interruption"
+SINGLE = "setup 78 0167 single lockout interruption"
+SUMMATION = "setup 78 0167 pair summation interruption"
+COUPLING_SUMMATION = "setup 78 0167 pair lockout summation"
+ALL_SUMMATION = "setup 78 0167 pair summation summation"
+
+MAIN, STANDBY = 0, 1
+
+
+def sound(seat, length):
+    return bytes((16 * seat + i) % 256 for i in range(length))
+
+
+def shows(answer, expected):
+    """A part of the answer; of refusals, ticks and openings its first words, whole."""
+    if expected.startswith(("refused", "ok closed", "ok id")):
+        return (answer + " ").startswith(expected + " ")
+    return expected in answer
+
+
+class Sessions:
+    """Lines with their answers, written down as they are tried."""
+
+    def __init__(self):
+        self.lines, self.answers, self.sessions = [], [], 0
+        self.console = console.Console()
+        self.next = {}
+
+    def session(self, title, setup=PAIR):
+        self.sessions += 1
+        self.lines.append(f"# {title}")
+        self.say(setup, "ok")
+        self.next = {n: 1 for n in range(0, 256)}
+
+    def note(self, text):
+        self.lines.append(f"# {text}")
+
+    def say(self, line, expected):
+        """expected: what the line is there to show, written by hand."""
+        answer = self.console.answer(line)
+        assert shows(answer, expected), (line, expected, answer)
+        self.lines.append(line)
+        self.answers.append(answer)
+        return answer
+
+    def open(self, seats, call="txrx", period=200, multiplier=10, sequence=0):
+        """Opens each seat of a text of digits; its reports have SSRC 100 times the seat."""
+        for digit in seats:
+            own = digit if call in ("txrx", "coupling") else "0"
+            self.say(f"open {digit} {call} {period} {multiplier} {digit}00 {sequence}", f"ok id={own}")
+
+    def bytes_of(self, seat, ptt=OFF, id=None, pm=0, ptts=0, cld=None, mss=None, audio=0, sequence=None, ssrc=None):
+        """The next packet of a seat, in plain form."""
+        if sequence is None:
+            sequence = self.next[seat]
+        self.next[seat] = (sequence + 1) % 65536
+        field = model.Field(ptt=ptt, id=seat if id is None else id, pm=pm, ptts=ptts, climax=cld, side=mss)
+        message = model.Message(sequence, 0, seat if ssrc is None else ssrc, field)
+        return model.plain(model.TX, self.console.bench.setup.ext, message, sound(seat, audio))
+
+    def raw(self, seat, packet, expected):
+        return self.say(f"packet {seat} {console.hexed(packet)}", expected)
+
+    def packet(self, seat, expected="ok missing=0", **values):
+        """A packet; a refused one doesn't use up its sequence number."""
+        before = self.next[seat]
+        answer = self.raw(seat, self.bytes_of(seat, **values), expected)
+        if answer.startswith("refused"):
+            self.next[seat] = before
+
+    def told(self, seat, audio=0, **expected):
+        """A report with just the room it needs; its fields are held to those expected."""
+        size = 20 + audio
+        bench = self.console.bench
+        if bench.setup.pair and bench.signals > 0:
+            size += 4
+        words = self.say(f"report {seat} 0 {console.hexed(sound(seat, audio))} {size}", f"ok len={size}").split()
+        field = model.read(model.RX, bench.setup.ext, bytes.fromhex(words[2])).field
+        for name, value in expected.items():
+            assert getattr(field, name) == value, (self.lines[-1], name, value, field)
+
+    def all_told(self, seats, **expected):
+        for digit in seats:
+            self.told(int(digit), **expected)
+
+    def save(self, folder, name):
+        (folder / f"{name}stdin").write_text("".join(line + "\n" for line in self.lines))
+        (folder / f"{name}stdout").write_text("".join(answer + "\n" for answer in self.answers))

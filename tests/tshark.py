@@ -1,0 +1,153 @@
+#!/usr/bin/env python3
+"""Holds packets of the model to what tshark (Wireshark) reads in them. Not part of the gate.
+
+  tests/tshark.py            needs tshark on the PATH; exits 1 at a difference
+
+Each packet goes into a capture as one UDP datagram; tshark is told that the port carries RTP and knows extension
+type hex 0167 as the ED-137 radio header. docs/tshark.md says what was seen.
+"""
+
+import pathlib
+import struct
+import subprocess
+import sys
+import tempfile
+
+import model
+from model import COUPLING, EMERGENCY, NORMAL, OFF, PRIORITY, TEST, Field
+
+EXT = 0x0167
+PORT = 5004
+HEADER = "rtp.ext.ed137a"
+
+# name here, tshark's field
+COMPARED = [
+    ("version", "rtp.version"),
+    ("padding", "rtp.padding"),
+    ("extension", "rtp.ext"),
+    ("CC", "rtp.cc"),
+    ("marker", "rtp.marker"),
+    ("payload type", "rtp.p_type"),
+    ("sequence", "rtp.seq"),
+    ("timestamp", "rtp.timestamp"),
+    ("SSRC", "rtp.ssrc"),
+    ("extension type", "rtp.ext.profile"),
+    ("W", "rtp.ext.len"),
+    ("PTT type", f"{HEADER}.ptt_type"),
+    ("SQU", f"{HEADER}.squ"),
+    ("ptt-id", f"{HEADER}.ptt_id"),
+    ("PM", f"{HEADER}.pm"),
+    ("PTTS", f"{HEADER}.ptts"),
+    ("SCT", f"{HEADER}.sct"),
+    ("reserved", f"{HEADER}.reserved"),
+    ("X", f"{HEADER}.x"),
+    ("item types", f"{HEADER}.ft.type"),
+    ("item lengths", f"{HEADER}.ft.len"),
+    ("SQI quality", f"{HEADER}.ft.sqi.qidx"),
+    ("SQI method", f"{HEADER}.ft.sqi.qidx-ml"),
+    ("CLIMAX high bit", f"{HEADER}.ft.climax_delay.mode"),
+    ("CLIMAX delay", f"{HEADER}.ft.climax_delay.absolute_value"),
+    ("main/standby byte", f"{HEADER}.ft.value"),
+    ("payload", "rtp.payload"),
+]
+
+
+def sound(length):
+    return bytes((3 * i + 9) % 256 for i in range(length))
+
+
+def made():
+    """(direction, field, audio): all types, each bit alone, all items."""
+    for ptt in (OFF, NORMAL, COUPLING, PRIORITY, EMERGENCY, TEST):
+        yield model.TX, Field(ptt=ptt, id=ptt + 1), b""
+        yield model.RX, Field(ptt=ptt, id=63 - ptt), b""
+    for ptt_id in (1, 2, 4, 8, 16, 32):
+        yield model.TX, Field(ptt=NORMAL, id=ptt_id), b""
+    for bit in ("pm", "ptts"):
+        yield model.TX, Field(ptt=NORMAL, id=2, **{bit: 1}), b""
+    for bit in ("squ", "pm", "ptts", "sct"):
+        yield model.RX, Field(**{bit: 1}), b""
+    for climax in (None, 0, 6, 127):
+        for side in (None, model.MAIN, model.STANDBY):
+            yield model.TX, Field(ptt=NORMAL, id=2, climax=climax, side=side), b""
+    for sqi in (None, (0, 0), (7, 0), (15, 0), (31, 1), (16, 2), (31, 3)):
+        for side in (None, model.MAIN, model.STANDBY):
+            yield model.RX, Field(ptt=EMERGENCY, squ=1, id=61, pm=1, ptts=1, sct=1, sqi=sqi, side=side), b""
+    for length in model.AUDIO_LENGTHS:
+        yield model.TX, Field(ptt=PRIORITY, id=5, climax=6, side=model.STANDBY), sound(length)
+        yield model.RX, Field(squ=1, sqi=(7, 0), side=model.MAIN), sound(length)
+
+
+def packets():
+    """(direction, packet)"""
+    for n, (direction, field, audio) in enumerate(made()):
+        message = model.Message((65530 + n) % 65536, 160 * n, 0x01020304 + n, field)
+        yield direction, model.plain(direction, EXT, message, audio)
+    # not plain: CSRC words, items by falling type, zero words
+    head = "927B0001000000A000000007" + "AAAAAAAABBBBBBBB" + "01670004"
+    yield model.TX, bytes.fromhex(head + "2081" + "5180" + "2186" + "00" * 10)
+    yield model.RX, bytes.fromhex(head + "10A9" + "5180" + "1138" + "00" * 10)
+
+
+def by_the_model(direction, packet):
+    """The values of COMPARED, in its order; what is absent is an empty text."""
+    message = model.read(direction, EXT, packet)
+    f = message.field
+    cc = packet[0] % 16
+    words = packet[16 + 4 * cc : len(packet) - len(message.audio)]
+    x = words[1] % 2
+    pairs = model.items(direction, x, words[2:])
+    rtp = [2, 0, 1, cc, 0, message.kind, message.sequence, message.timestamp, message.ssrc, EXT, len(words) // 4]
+    field = [f.ptt, f.squ, f.id, f.pm, f.ptts, f.sct, 0, x]
+    types = " ".join(str(item_type) for item_type, _ in pairs)
+    lengths = " ".join("1" for _ in pairs)
+    sqi = f.sqi or ("", "")
+    climax = ("", "") if f.climax is None else (1, f.climax)
+    side = "" if f.side is None else f"{128 * f.side:02x}"
+    return [str(v) for v in (*rtp, *field, types, lengths, *sqi, *climax, side, message.audio.hex())]
+
+
+def capture(datagrams):
+    """A capture file of raw IPv4 packets, one UDP datagram in each."""
+    out = struct.pack("<IHHiIII", 0xA1B2C3D4, 2, 4, 0, 0, 65535, 101)
+    for n, datagram in enumerate(datagrams):
+        udp = struct.pack(">HHHH", PORT, PORT, 8 + len(datagram), 0) + datagram
+        ip = struct.pack(">BBHHHBBH4s4s", 0x45, 0, 20 + len(udp), n, 0, 64, 17, 0, bytes([192, 0, 2, 1]), bytes([192, 0, 2, 2]))
+        out += struct.pack("<IIII", n, 0, len(ip + udp), len(ip + udp)) + ip + udp
+    return out
+
+
+def seen_by_tshark(datagrams):
+    with tempfile.TemporaryDirectory() as folder:
+        path = pathlib.Path(folder) / "packets.pcap"
+        path.write_bytes(capture(datagrams))
+        command = ["tshark", "-n", "-r", str(path), "-d", f"udp.port=={PORT},rtp", "-T", "fields", "-E", "separator=|", "-E", "aggregator= "]
+        for _, name in COMPARED:
+            command += ["-e", name]
+        done = subprocess.run(command, capture_output=True, text=True, check=True)
+    return [line.split("|") for line in done.stdout.splitlines()]
+
+
+def same(name, ours, theirs):
+    """tshark writes some numbers in hex; bytes are compared as they are."""
+    if name in ("main/standby byte", "payload"):
+        return ours == theirs
+    return [int(n, 0) for n in ours.split()] == [int(n, 0) for n in theirs.split()]
+
+
+def main():
+    all_packets = list(packets())
+    rows = seen_by_tshark([packet for _, packet in all_packets])
+    assert len(rows) == len(all_packets), "tshark left a packet out"
+    differences = 0
+    for (direction, packet), row in zip(all_packets, rows):
+        for (name, _), ours, theirs in zip(COMPARED, by_the_model(direction, packet), row, strict=True):
+            if not same(name, ours, theirs):
+                differences += 1
+                print(f"{direction} {packet.hex()}: {name}: model {ours or 'nothing'}, tshark {theirs or 'nothing'}")
+    print(f"{len(all_packets)} packets, {len(COMPARED)} fields in each, {differences} differences")
+    return 1 if differences else 0
+
+
+if __name__ == "__main__":
+    sys.exit(main())
