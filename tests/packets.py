@@ -17,8 +17,8 @@ import sys
 import model
 
 ROOT = pathlib.Path(__file__).resolve().parent.parent
-CRATE = ROOT / "crates" / "decode_many"
-ELSEWHERE = ROOT / "tests" / "out" / "decode_many"
+CRATE = ROOT / "crates" / "decode_each"
+ELSEWHERE = ROOT / "tests" / "out" / "decode_each"
 INPUT, EXPECTED = "stdin", "stdout"
 EXT = 0x0167
 

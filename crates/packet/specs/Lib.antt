@@ -4,5 +4,6 @@ pub mod Packet
 pub mod Items
 pub mod Refusals
 pub mod Reading
+pub mod Writing
 pub mod Scan
 pub mod Steps

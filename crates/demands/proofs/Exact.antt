@@ -1,0 +1,62 @@
+-- Each refusal in exactly its case.
+use Prim.Native.Nat.{ℕ}
+use mathlib.Core.Path.{_≡_, refl, ap, sym, _∙_}
+use mathlib.Core.Bool.{Bool, true, false, cond}
+use mathlib.Core.List.{List, [], _∷_}
+use mathlib.Core.Logic.{_⊎_, inl, inr}
+use native.Mathlib.Omega.{arith}
+use Rattle.packet.specs.Refusals.{Case, FirstCase, NoCase, Answer, accepted, refused, causeOf, judged, mapped}
+use Rattle.packet.specs.Reading.{readerRefusals, messageOf, read, readTx, readRx, asTx, asRx}
+use Rattle.packet.specs.declared.message.Direction.the-variants as direction
+use Rattle.demands.specs.Exact.{Exact, ReadersExact}
+
+never : {A : Type 0} (a : A) (n c : ℕ) → accepted a ≡ refused n c → ⊥
+never a n c e = let z : _≡_ {A = ℕ} 0 1 = cc in omega arith
+
+module _ {A : Type 0} (a : A) where
+  refuses : (cs : List Case) (n : ℕ) → FirstCase n cs → judged cs a ≡ refused n (causeOf n)
+  refuses [] n f = absurd f
+  refuses (c ∷ cs) n (inl h) = simp (h .0, h .1)
+  refuses (c ∷ cs) n (inr h) = simp (h .0) (refuses cs n (h .1))
+
+  pub accepts : (cs : List Case) → NoCase cs → judged cs a ≡ accepted a
+  accepts [] h = refl
+  accepts (c ∷ cs) h = simp (h .0) (accepts cs (h .1))
+
+  only-then : (cs : List Case) (n k : ℕ) → judged cs a ≡ refused n k → FirstCase n cs × (k ≡ causeOf n)
+  only-then [] n k e = absurd (never a n k e)
+  only-then (c ∷ cs) n k e = by-case (c .holds) refl e (λ q. only-then cs n k q)
+    where
+      by-case : (t : Bool) → c .holds ≡ t → cond t (refused (c .number) (causeOf (c .number))) (judged cs a) ≡ refused n k
+          → (judged cs a ≡ refused n k → FirstCase n cs × (k ≡ causeOf n)) → FirstCase n (c ∷ cs) × (k ≡ causeOf n)
+      by-case true p q later = let m : c .number ≡ n = cc in (inl (p, m), cc (ap causeOf m))
+      by-case false p q later = (inr (p, later q .0), later q .1)
+
+  meets-none : (cs : List Case) (b : A) → judged cs a ≡ accepted b → NoCase cs
+  meets-none [] b e = tt
+  meets-none (c ∷ cs) b e = by-case (c .holds) refl e (λ q. meets-none cs b q)
+    where
+      by-case : (t : Bool) → c .holds ≡ t → cond t (refused (c .number) (causeOf (c .number))) (judged cs a) ≡ accepted b
+          → (judged cs a ≡ accepted b → NoCase cs) → NoCase (c ∷ cs)
+      by-case true p q later = absurd (never b (c .number) (causeOf (c .number)) (sym q))
+      by-case false p q later = (p, later q)
+
+  pub exact-judged : (cs : List Case) → Exact cs (judged cs a)
+  exact-judged cs =
+      record { refuses = refuses cs; only-then = only-then cs; accepts = λ h. (a, accepts cs h); meets-none = meets-none cs }
+
+-- a value made from the value is refused alike
+judged-mapped : {A B : Type 0} (f : A → B) (cs : List Case) (a : A) → mapped f (judged cs a) ≡ judged cs (f a)
+judged-mapped f [] a = refl
+judged-mapped f (c ∷ cs) a = by-case (c .holds) (judged-mapped f cs a)
+  where
+    by-case : (t : Bool) → mapped f (judged cs a) ≡ judged cs (f a)
+        → mapped f (cond t (refused (c .number) (causeOf (c .number))) (judged cs a)) ≡ cond t (refused (c .number) (causeOf (c .number))) (judged cs (f a))
+    by-case true h = refl
+    by-case false h = h
+
+pub readers-exact : ReadersExact
+unfolding read readTx readRx
+readers-exact = record
+    { of-tx = λ ext p. rw (judged-mapped asTx (readerRefusals direction.Tx ext p) (messageOf p)) (exact-judged (asTx (messageOf p)) (readerRefusals direction.Tx ext p))
+    ; of-rx = λ ext p. rw (judged-mapped asRx (readerRefusals direction.Rx ext p) (messageOf p)) (exact-judged (asRx (messageOf p)) (readerRefusals direction.Rx ext p)) }

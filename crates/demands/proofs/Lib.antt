@@ -1,0 +1,4 @@
+pub mod Exact
+pub mod Items
+pub mod Passed
+pub mod Inversion

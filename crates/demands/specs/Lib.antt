@@ -1,0 +1,3 @@
+-- The statements. Each file stands alone: the demand's words, then what is shown.
+pub mod Exact
+pub mod Inversion

@@ -1,0 +1,2 @@
+-- What a packet looks like as a line.
+pub mod Lines

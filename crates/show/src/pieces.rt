@@ -1,0 +1,73 @@
+// The pieces of a line. Each writes at a place and returns the next one.
+ghost use mathlib.Core.List.{_++_};
+ghost use Rattle.words.specs.Text.{Written, decimal, bit};
+ghost use Rattle.show.specs.Lines.{stamp, kind, quality, delay, side};
+use packet::ClimaxItem;
+use packet::SideItem;
+use packet::SqiItem;
+use words::put;
+use words::put_bit;
+use words::put_number;
+
+pub fn named_number(out: &mut [u8], at: usize, name: &[u8], n: u64) -> usize
+    ensures { λ r. ⌜ Written (now (out .entry)) (now (out .exit)) at r (now (name .entry) ++ decimal n) ⌝ }
+{
+    let next = put(out, at, name);
+    put_number(out, next, n)
+}
+
+pub fn named_bit(out: &mut [u8], at: usize, name: &[u8], b: bool) -> usize
+    ensures { λ r. ⌜ Written (now (out .entry)) (now (out .exit)) at r (now (name .entry) ++ bit b) ⌝ }
+{
+    let next = put(out, at, name);
+    put_bit(out, next, b)
+}
+
+pub fn put_stamp(out: &mut [u8], at: usize, sequence: u16, timestamp: u32, ssrc: u32) -> usize
+    ensures { λ r. ⌜ Written (now (out .entry)) (now (out .exit)) at r (stamp sequence timestamp ssrc) ⌝ }
+{
+    let after = named_number(out, at, b" seq=", sequence as u64);
+    let next = named_number(out, after, b" ts=", timestamp as u64);
+    named_number(out, next, b" ssrc=", ssrc as u64)
+}
+
+pub fn put_kind(out: &mut [u8], at: usize, audio: usize) -> usize
+    ensures { λ r. ⌜ Written (now (out .entry)) (now (out .exit)) at r (kind audio) ⌝ }
+{
+    if audio == 0 {
+        put(out, at, b" kind=R2S")
+    } else {
+        put(out, at, b" kind=AUDIO")
+    }
+}
+
+pub fn put_quality(out: &mut [u8], at: usize, item: SqiItem) -> usize
+    ensures { λ r. ⌜ Written (now (out .entry)) (now (out .exit)) at r (quality item) ⌝ }
+{
+    match item {
+        SqiItem::Absent => put(out, at, b" sqi=-"),
+        SqiItem::Is { quality, method } => {
+            let next = named_number(out, at, b" sqi=", quality as u64);
+            named_number(out, next, b"/", method as u64)
+        }
+    }
+}
+
+pub fn put_delay(out: &mut [u8], at: usize, item: ClimaxItem) -> usize
+    ensures { λ r. ⌜ Written (now (out .entry)) (now (out .exit)) at r (delay item) ⌝ }
+{
+    match item {
+        ClimaxItem::Absent => put(out, at, b" cld=-"),
+        ClimaxItem::Is(value) => named_number(out, at, b" cld=", value as u64),
+    }
+}
+
+pub fn put_side(out: &mut [u8], at: usize, item: SideItem) -> usize
+    ensures { λ r. ⌜ Written (now (out .entry)) (now (out .exit)) at r (side item) ⌝ }
+{
+    match item {
+        SideItem::Absent => put(out, at, b" mss=-"),
+        SideItem::Main => put(out, at, b" mss=0"),
+        SideItem::Standby => put(out, at, b" mss=1"),
+    }
+}
