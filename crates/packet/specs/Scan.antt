@@ -66,8 +66,11 @@ takeClimax k b = cond (climaxAllowed b) (scanAt Next (withClimax k b)) (scanAt B
 unfoldable pub takeSide : Items → ℕ → Scan
 takeSide k b = cond (sideAllowed b) (scanAt Next (withSide k b)) (scanAt Broken k)
 
+abbrev pub zerosOf : Items → ℕ → Scan
+zerosOf k b = cond (eqb b 0) (scanAt Tail k) (scanAt Broken k)
+
 abbrev pub stepIn : Direction → Mode → Items → ℕ → Scan
-stepIn d Tail k b = cond (eqb b 0) (scanAt Tail k) (scanAt Broken k)
+stepIn d Tail k b = zerosOf k b
 stepIn d First k b = beginOf d k b
 stepIn d Next k b = cond (eqb b 0) (scanAt Tail k) (beginOf d k b)
 stepIn d Sqi k b = takeSqi k b

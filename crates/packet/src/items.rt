@@ -2,7 +2,7 @@
 // specs/Items.antt has the meaning, specs/Scan.antt what one byte does; proofs/Meaning.antt shows that they agree.
 ghost use mathlib.Core.Path.{_≡_};
 ghost use Rattle.packet.specs.Items.{sqiAllowed};
-ghost use Rattle.packet.specs.Scan.{sqiFree, climaxFree, sideFree, scanAt, beginOf, takeSqi, takeClimax, takeSide, stepOf, scanOf, startOf, endOf, itemsRead};
+ghost use Rattle.packet.specs.Scan.{sqiFree, climaxFree, sideFree, scanAt, beginOf, takeSqi, takeClimax, takeSide, zerosOf, stepOf, scanOf, startOf, endOf, itemsRead};
 use crate::message::ClimaxItem;
 use crate::message::Direction;
 use crate::message::Items;
@@ -209,6 +209,16 @@ fn take_side(items: Items, b: u8) -> Scan
     }
 }
 
+// Behind the ending zero byte, and under X = 0, every byte is zero.
+fn zeros(items: Items, b: u8) -> Scan
+    ensures { λ r. ⌜ r ≡ zerosOf items b ⌝ }
+{
+    if b != 0 {
+        return at(Mode::Broken, items);
+    }
+    at(Mode::Tail, items)
+}
+
 // One byte further.
 fn step(d: Direction, s: Scan, b: u8) -> Scan
     ensures { λ r. ⌜ r ≡ stepOf d s b ⌝ }
@@ -216,13 +226,7 @@ fn step(d: Direction, s: Scan, b: u8) -> Scan
     let mode = s.mode;
     let items = s.items;
     match mode {
-        Mode::Tail => {
-            if b == 0 {
-                at(Mode::Tail, items)
-            } else {
-                at(Mode::Broken, items)
-            }
-        }
+        Mode::Tail => zeros(items, b),
         Mode::First => begin(d, items, b),
         Mode::Next => {
             if b == 0 {
