@@ -1,3 +1,7 @@
+pub mod Truths
 pub mod Parts
 pub mod Loops
 pub mod Numbers
+pub mod Signed
+pub mod Distances
+pub mod OrderLaws

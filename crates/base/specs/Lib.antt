@@ -1,3 +1,4 @@
--- What the crates above share: tests, bytes, and refusals as the paper's list.
+-- What the crates above share: tests, bytes, and the order of packets.
 pub mod Tests
 pub mod Bytes
+pub mod Order

@@ -1,9 +1,17 @@
 // Bytes and numbers, for every crate above: total helpers, which ask nothing of their callers.
 // Start at specs/Bytes.antt, which says what a number in a slice is; specs/Tests.antt has the set that answers most proofs.
+// order.rt has the order of packets, said in specs/Order.antt.
 ghost use mathlib.Core.Path.{_≡_};
 ghost use Prim.Native.Nat.{_+_, _*_, _-_, min};
 ghost use lib.ListN.{length, take, drop};
 ghost use Rattle.base.specs.Bytes.{byteAt, number16, number32, partOf, LiesAt};
+
+pub mod order;
+
+pub use order::distance;
+pub use order::late;
+pub use order::missing;
+pub use order::size;
 
 // The byte at a place, and 0 past the end.
 pub fn byte_at(s: &[u8], i: usize) -> u8

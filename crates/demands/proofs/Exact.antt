@@ -57,6 +57,7 @@ judged-mapped f (c ∷ cs) a = by-case (c .holds) (judged-mapped f cs a)
 
 pub readers-exact : ReadersExact
 unfolding read readTx readRx
-readers-exact = record
-    { of-tx = λ ext p. rw (judged-mapped asTx (readerRefusals direction.Tx ext p) (messageOf p)) (exact-judged (asTx (messageOf p)) (readerRefusals direction.Tx ext p))
-    ; of-rx = λ ext p. rw (judged-mapped asRx (readerRefusals direction.Rx ext p) (messageOf p)) (exact-judged (asRx (messageOf p)) (readerRefusals direction.Rx ext p)) }
+readers-exact = record {
+  of-tx = λ ext p. rw (judged-mapped asTx (readerRefusals direction.Tx ext p) (messageOf p)) (exact-judged (asTx (messageOf p)) (readerRefusals direction.Tx ext p));
+  of-rx = λ ext p. rw (judged-mapped asRx (readerRefusals direction.Rx ext p) (messageOf p)) (exact-judged (asRx (messageOf p)) (readerRefusals direction.Rx ext p));
+}

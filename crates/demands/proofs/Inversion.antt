@@ -10,6 +10,7 @@ use lib.ListN.{length, take, drop, getD, replicate, length-take, length-drop}
 use lib.Seq.{getD-drop}
 use borrow.Author.Tests.{ltb-false, leb-true, eqb-true, eqb-false, not-false}
 use Rattle.base.specs.Bytes.{byteAt, number16, number32, bytes8, bytes16, bytes32, bits, placed, bit, isSet, partOf, Bytes}
+use Rattle.base.proofs.Truths.{and-left, and-right}
 use Rattle.base.proofs.Numbers.{cut, byte-back, number16-back, number32-back, number16-small}
 use Rattle.packet.specs.Packet.{version, padding, extension, csrcCount, marker, payloadType, sequence, timestamp, ssrc, extensionAt, extensionType, wordCount, wordsAt, payloadAt, payload, field, pttType, squ, pttId, pm, ptts, sct, x, reserved, squAllowed, fieldAllowed, afterField}
 use Rattle.packet.specs.Items.{Item, Found, found, broken, someItem, itemsIn, itemsAllowed, runAllowed, itemsOf, listed, allZero, allAllowed, noTypeTwice, kept}
@@ -19,16 +20,13 @@ use Rattle.packet.specs.Writing.{fieldOf, itemBytes}
 use Rattle.packet.specs.declared.message.Direction.{Direction}
 use Rattle.packet.specs.declared.message.Direction.the-variants.{Tx, Rx}
 use Rattle.packet.specs.declared.message.Message.{Message}
-use Rattle.demands.specs.Inversion.{laid, csrcWords, itemsHere, Inversion}
+use Rattle.demands.specs.Inversion.{laid, csrcWords, Inversion}
+use Rattle.demands.specs.Plain.{itemsHere}
 use Rattle.demands.proofs.Exact.{accepts, exact-judged}
 use Rattle.demands.proofs.Passed.{Passed, passed}
 use Rattle.demands.proofs.Items.{zeros-are, items-back}
 
 -- ---- numbers from their bits
-
-and-yes : (a b : Bool) → a && b ≡ true → (a ≡ true) × (b ≡ true)
-and-yes true b e = (refl, e)
-and-yes false b e = (e, cc)
 
 -- a bit that is not set is 0
 bit-of : (n : ℕ) → bit (isSet (n % 2)) ≡ n % 2
@@ -72,14 +70,13 @@ module _ (f : ℕ) (small : f < 65536) where
   top-bits : f / 8192 ≡ pttType f
   top-bits = omega arith
 
-
 -- the reserved bits that both directions want 0
 none-reserved : (d : Direction) (f : ℕ) → fieldAllowed d f ≡ true → f / 2 % 4 ≡ 0
 unfolding fieldAllowed
 none-reserved Tx f e =
-    let z = eqb-true (f / 2 % 8) 0 (and-yes (leb (pttType f) 5 && squAllowed Tx f) (eqb (reserved Tx f) 0) e .1) in
+    let z = eqb-true (f / 2 % 8) 0 (and-right (leb (pttType f) 5 && squAllowed Tx f) (eqb (reserved Tx f) 0) e) in
     omega arith
-none-reserved Rx f e = eqb-true (f / 2 % 4) 0 (and-yes (leb (pttType f) 5 && squAllowed Rx f) (eqb (reserved Rx f) 0) e .1)
+none-reserved Rx f e = eqb-true (f / 2 % 4) 0 (and-right (leb (pttType f) 5 && squAllowed Rx f) (eqb (reserved Rx f) 0) e)
 
 take-bytes : (n : ℕ) (l : List ℕ) → Bytes l → Bytes (take n l)
 take-bytes zero l h i = omega arith
@@ -103,7 +100,7 @@ module _ (d : Direction) (f : ℕ) (bs : List ℕ) (small : Bytes bs) where
   run-back : (g : Found) → itemsIn bs ≡ g → runAllowed d g ≡ true
       → (bs ≡ itemBytes (listed g) ++ replicate (length bs - 2 * length (listed g)) 0) × (someItem (listed g) ≡ true)
   unfolding runAllowed
-  run-back (found js) e h = (items-back bs js small e, and-yes (someItem js) (allAllowed d js) (and-yes (someItem js && allAllowed d js) (noTypeTwice js) h .0) .0)
+  run-back (found js) e h = (items-back bs js small e, and-left (someItem js) (allAllowed d js) (and-left (someItem js && allAllowed d js) (noTypeTwice js) h))
   run-back broken e h = absurd (not-broken h)
 
   x-one : eqb (x f) 0 ≡ false → x f ≡ 1
@@ -151,9 +148,9 @@ module _ (d : Direction) (ext : ℕ) (p : List ℕ) (small : Bytes p) (h : Passe
       let f = field p in
       field-parts f f-small (none-reserved d f (h .field-allowed))
       ∙ same-sum (f / 8192) (pttType f) (f / 4096 % 2) (bit (isSet (squ f))) (pttId f) (f / 32 % 2) (bit (isSet (pm f))) (f / 16 % 2) (bit (isSet (ptts f)))
-        (f / 8 % 2) (bit (isSet (sct f))) (f % 2) (bit (someItem (itemsHere p)))
-        (top-bits f f-small) (sym (bit-of (f / 4096))) (sym (bit-of (f / 32))) (sym (bit-of (f / 16))) (sym (bit-of (f / 8)))
-        (ap (λ (n : ℕ). n % 2) (sym (div-one f)) ∙ sym (here .1))
+      (f / 8 % 2) (bit (isSet (sct f))) (f % 2) (bit (someItem (itemsHere p)))
+      (top-bits f f-small) (sym (bit-of (f / 4096))) (sym (bit-of (f / 32))) (sym (bit-of (f / 16))) (sym (bit-of (f / 8)))
+      (ap (λ (n : ℕ). n % 2) (sym (div-one f)) ∙ sym (here .1))
 
   -- what lies behind a place: a piece of known bytes, and what lies behind that
   piece : (n m : ℕ) (xs ys : List ℕ) → take m (drop n p) ≡ xs → drop (n + m) p ≡ ys → drop n p ≡ xs ++ ys
@@ -169,11 +166,11 @@ module _ (d : Direction) (ext : ℕ) (p : List ℕ) (small : Bytes p) (h : Passe
       let zeros : length (afterField p) - 2 * length is ≡ 4 * wordCount p - (2 + 2 * length is) = omega arith in
       cut (wordsAt p) 2 p
       ∙ ap (λ (l : List ℕ). l ++ drop (wordsAt p + 2) p)
-          (number16-back p small (wordsAt p) (omega (arith, h .words-end, h .some-word)) ∙ ap bytes16 field-back)
+      (number16-back p small (wordsAt p) (omega (arith, h .words-end, h .some-word)) ∙ ap bytes16 field-back)
       ∙ ap (λ (l : List ℕ). bytes16 (fieldOf (messageOf p) is) ++ l)
-          (cut (wordsAt p + 2) (payloadAt p - (wordsAt p + 2)) p
-          ∙ ap (λ (n : ℕ). afterField p ++ drop n p) room
-          ∙ ap (λ (l : List ℕ). l ++ payload p) (here .0 ∙ ap (λ (n : ℕ). itemBytes is ++ replicate n 0) zeros))
+      (cut (wordsAt p + 2) (payloadAt p - (wordsAt p + 2)) p
+      ∙ ap (λ (n : ℕ). afterField p ++ drop n p) room
+      ∙ ap (λ (l : List ℕ). l ++ payload p) (here .0 ∙ ap (λ (n : ℕ). itemBytes is ++ replicate n 0) zeros))
       ∙ simp append-assoc
 
   csrc-count : length (csrcWords p) / 4 ≡ csrcCount p
@@ -206,8 +203,8 @@ module _ (d : Direction) (ext : ℕ) (p : List ℕ) (small : Bytes p) (h : Passe
       (piece (e + 2) 2 _ _ (number16-back p small (e + 2) (omega (arith, h .words-begin)))
       (ap (λ (n : ℕ). drop n p) e4 ∙ words-back))))))))
       ∙ regroup (bytes8 (placed 8 0 2 2 + placed 8 3 1 1 + placed 8 4 4 (length (csrcWords p) / 4))) (bytes8 (payloadType p)) (bytes16 (sequence p))
-        (bytes32 (timestamp p)) (bytes32 (ssrc p)) (csrcWords p) (bytes16 ext) (bytes16 (wordCount p)) (bytes16 (fieldOf (messageOf p) (itemsHere p)))
-        (itemBytes (itemsHere p)) (replicate (4 * wordCount p - (2 + 2 * length (itemsHere p))) 0) (payload p)
+      (bytes32 (timestamp p)) (bytes32 (ssrc p)) (csrcWords p) (bytes16 ext) (bytes16 (wordCount p)) (bytes16 (fieldOf (messageOf p) (itemsHere p)))
+      (itemBytes (itemsHere p)) (replicate (4 * wordCount p - (2 + 2 * length (itemsHere p))) 0) (payload p)
 
 same-message : (a b : Message) → accepted a ≡ accepted b → a ≡ b
 same-message a b e = cc

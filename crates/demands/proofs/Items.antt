@@ -9,24 +9,20 @@ use lib.Dec.{eqb}
 use lib.ListN.{length, getD, replicate}
 use borrow.Author.Tests.{eqb-true, eqb-false}
 use Rattle.base.specs.Bytes.{byteAt, Bytes, bytes8, placed}
+use Rattle.base.proofs.Truths.{and-left, and-right}
 use Rattle.packet.specs.Items.{Item, Found, found, broken, behind, allZero, itemType, itemLength, itemsIn}
 use Rattle.packet.specs.Writing.{itemBytes}
 
 pub tail-bytes : (b : ℕ) (bs : List ℕ) → Bytes (b ∷ bs) → Bytes bs
 tail-bytes b bs h i = h (suc i)
 
-and-both : (a b : Bool) → a && b ≡ true → (a ≡ true) × (b ≡ true)
-and-both true b e = (refl, e)
-and-both false b e = (e, cc)
-
 -- zeros alone
 pub zeros-are : (bs : List ℕ) → allZero bs ≡ true → bs ≡ replicate (length bs) 0
 unfolding allZero
 zeros-are [] e = refl
 zeros-are (b ∷ bs) e =
-    let h = and-both (eqb b 0) (allZero bs) e in
-    let z : b ≡ 0 = eqb-true b 0 (h .0) in
-    let r : bs ≡ replicate (length bs) 0 = zeros-are bs (h .1) in
+    let z : b ≡ 0 = eqb-true b 0 (and-left (eqb b 0) (allZero bs) e) in
+    let r : bs ≡ replicate (length bs) 0 = zeros-are bs (and-right (eqb b 0) (allZero bs) e) in
     ap (λ (c : ℕ). c ∷ bs) z ∙ ap (λ (l : List ℕ). 0 ∷ l) r
 
 -- an item's first byte is its type and length 1
@@ -70,7 +66,7 @@ by-item b v rest js hb hv one ih =
     ap (λ (c : ℕ). c ∷ v ∷ rest) (head-back b hb one)
     ∙ ap (λ (c : ℕ). (placed 8 0 4 (itemType b) + placed 8 4 4 1) % 256 ∷ c ∷ rest) (value-back v hv)
     ∙ ap (λ (l : List ℕ). (placed 8 0 4 (itemType b) + placed 8 4 4 1) % 256 ∷ v % 256 ∷ l)
-        (ih ∙ ap (λ (n : ℕ). itemBytes js ++ replicate n 0) (left-over (length rest) (length js)))
+    (ih ∙ ap (λ (n : ℕ). itemBytes js ++ replicate n 0) (left-over (length rest) (length js)))
 
 by-rest : (b v : ℕ) (rest : List ℕ) (f : Found) (is : List Item) → b < 256 → v < 256 → itemLength b ≡ 1
     → behind (record { type = itemType b; value = v }) f ≡ found is → ((js : List Item) → f ≡ found js → rest ≡ written rest js)

@@ -2,3 +2,12 @@ pub mod Exact
 pub mod Items
 pub mod Passed
 pub mod Inversion
+pub mod Chain
+pub mod Numbers
+pub mod ItemsBack
+pub mod RisingItems
+pub mod Parts
+pub mod ReadBack
+pub mod Written
+pub mod RoundTrip
+pub mod Examples

@@ -8,15 +8,12 @@ use lib.Dec.{ltb, eqb}
 use lib.ListN.{length}
 use borrow.Author.Tests.{ltb-false, eqb-true, eqb-false, not-false}
 use Rattle.base.specs.Bytes.{byteAt, isSet}
+use Rattle.base.proofs.Truths.{or-left, or-right}
 use Rattle.packet.specs.Packet.{version, padding, extension, marker, extensionType, wordCount, wordsAt, payloadAt, payloadType, payload, field, x, fieldAllowed, payloadAllowed, afterField}
 use Rattle.packet.specs.Items.{itemsAllowed}
 use Rattle.packet.specs.Refusals.{NoCase}
 use Rattle.packet.specs.Reading.{readerRefusals}
 use Rattle.packet.specs.declared.message.Direction.{Direction}
-
-or-no : (a b : Bool) → a || b ≡ false → (a ≡ false) × (b ≡ false)
-or-no true b e = (e, cc)
-or-no false b e = (refl, e)
 
 pub record Passed (d : Direction) (ext : ℕ) (p : List ℕ) : Type 0 where
   pub head : 12 ≤ length p
@@ -27,6 +24,7 @@ pub record Passed (d : Direction) (ext : ℕ) (p : List ℕ) : Type 0 where
   pub words-begin : wordsAt p ≤ length p
   pub type-is : extensionType p ≡ ext
   pub some-word : 1 ≤ wordCount p
+  pub few-words : wordCount p ≤ 15
   pub words-end : payloadAt p ≤ length p
   pub field-allowed : fieldAllowed d (field p) ≡ true
   pub items-allowed : itemsAllowed d (x (field p)) (afterField p) ≡ true
@@ -41,18 +39,18 @@ not-zero n e = omega (arith, eqb-false n 0 e)
 pub passed : (d : Direction) (ext : ℕ) (p : List ℕ) → NoCase (readerRefusals d ext p) → Passed d ext p
 unfolding readerRefusals
 passed d ext p h =
-    let three = or-no (isSet (padding p)) (isSet (marker p)) (h .1 .1 .0) in
-    let eight = or-no (eqb (wordCount p) 0) (ltb 15 (wordCount p)) (h .1 .1 .1 .1 .1 .1 .1 .0) in
-    record
-    { head = ltb-false (length p) 12 (h .0)
-    ; version-two = eqb-true (version p) 2 (not-false _ (h .1 .0))
-    ; no-padding = bit-zero (byteAt p 0 / 32) (three .0)
-    ; no-marker = bit-zero (byteAt p 1 / 128) (three .1)
-    ; extended = eqb-true (extension p) 1 (not-false _ (h .1 .1 .1 .0))
-    ; words-begin = ltb-false (length p) (wordsAt p) (h .1 .1 .1 .1 .1 .0)
-    ; type-is = eqb-true (extensionType p) ext (not-false _ (h .1 .1 .1 .1 .1 .1 .0))
-    ; some-word = not-zero (wordCount p) (eight .0)
-    ; words-end = ltb-false (length p) (payloadAt p) (h .1 .1 .1 .1 .1 .1 .1 .1 .0)
-    ; field-allowed = not-false _ (h .1 .1 .1 .1 .1 .1 .1 .1 .1 .0)
-    ; items-allowed = not-false _ (h .1 .1 .1 .1 .1 .1 .1 .1 .1 .1 .0)
-    ; payload-allowed = not-false _ (h .1 .1 .1 .1 .1 .1 .1 .1 .1 .1 .1 .0) }
+    record {
+      head = ltb-false (length p) 12 (h .0);
+      version-two = eqb-true (version p) 2 (not-false _ (h .1 .0));
+      no-padding = bit-zero (byteAt p 0 / 32) (or-left (isSet (padding p)) (isSet (marker p)) (h .1 .1 .0));
+      no-marker = bit-zero (byteAt p 1 / 128) (or-right (isSet (padding p)) (isSet (marker p)) (h .1 .1 .0));
+      extended = eqb-true (extension p) 1 (not-false _ (h .1 .1 .1 .0));
+      words-begin = ltb-false (length p) (wordsAt p) (h .1 .1 .1 .1 .1 .0);
+      type-is = eqb-true (extensionType p) ext (not-false _ (h .1 .1 .1 .1 .1 .1 .0));
+      some-word = not-zero (wordCount p) (or-left (eqb (wordCount p) 0) (ltb 15 (wordCount p)) (h .1 .1 .1 .1 .1 .1 .1 .0));
+      few-words = ltb-false 15 (wordCount p) (or-right (eqb (wordCount p) 0) (ltb 15 (wordCount p)) (h .1 .1 .1 .1 .1 .1 .1 .0));
+      words-end = ltb-false (length p) (payloadAt p) (h .1 .1 .1 .1 .1 .1 .1 .1 .0);
+      field-allowed = not-false _ (h .1 .1 .1 .1 .1 .1 .1 .1 .1 .0);
+      items-allowed = not-false _ (h .1 .1 .1 .1 .1 .1 .1 .1 .1 .1 .0);
+      payload-allowed = not-false _ (h .1 .1 .1 .1 .1 .1 .1 .1 .1 .1 .1 .0);
+    }

@@ -5,13 +5,14 @@ use mathlib.Core.Path.{_≡_}
 use mathlib.Core.List.{List, _++_}
 use lib.ListN.{length, replicate}
 use Rattle.base.specs.Bytes.{Bytes, bytes8, bytes16, bytes32, placed, partOf}
-use Rattle.packet.specs.Packet.{headLength, extensionAt, wordCount, payloadType, payload, field, x, afterField}
-use Rattle.packet.specs.Items.{Item, itemsOf}
+use Rattle.packet.specs.Packet.{headLength, extensionAt, wordCount, payloadType, payload}
+use Rattle.packet.specs.Items.{Item}
 use Rattle.packet.specs.Refusals.{accepted}
 use Rattle.packet.specs.Reading.{read}
 use Rattle.packet.specs.Writing.{fieldOf, itemBytes}
 use Rattle.packet.specs.declared.message.Direction.{Direction}
 use Rattle.packet.specs.declared.message.Message.{Message}
+use Rattle.demands.specs.Plain.{itemsHere}
 
 -- The packet of 01, written out from its parts.
 unfoldable pub laid : (csrc : List ℕ) (kind ext words : ℕ) → Message → List Item → (payload : List ℕ) → List ℕ
@@ -24,9 +25,6 @@ laid csrc kind ext words m is sound =
 
 unfoldable pub csrcWords : List ℕ → List ℕ
 csrcWords p = partOf headLength (extensionAt p) p
-
-unfoldable pub itemsHere : List ℕ → List Item
-itemsHere p = itemsOf (x (field p)) (afterField p)
 
 abbrev pub Inversion : Type 0
 Inversion = (d : Direction) (ext : ℕ) (p : List ℕ) (m : Message) → Bytes p → read d ext p ≡ accepted m

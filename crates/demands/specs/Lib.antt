@@ -1,3 +1,6 @@
 -- The statements. Each file stands alone: the demand's words, then what is shown.
 pub mod Exact
+pub mod Plain
 pub mod Inversion
+pub mod RoundTrip
+pub mod Examples

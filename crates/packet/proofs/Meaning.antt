@@ -5,6 +5,7 @@ use mathlib.Core.Bool.{Bool, true, false, cond, not, _&&_, _||_}
 use mathlib.Core.List.{List, [], _∷_, foldl}
 use lib.Dec.{eqb}
 use Rattle.base.specs.Bytes.{bits}
+use Rattle.base.proofs.Truths.{push, either-way, or-left}
 use borrow.Author.Tests.{eqb-true}
 use Rattle.packet.specs.Items.{Item, Found, found, broken, behind, allZero, itemType, itemLength, itemsIn, quality, method, sqiAllowed, delay, climaxAllowed, sideAllowed, sideOf, inTx, inRx, itemAllowed, allAllowed, hasType, noTypeTwice, someItem, runAllowed, itemsAllowed, itemsOf, listed, sqiAmong, climaxAmong, sideAmong, kept}
 use Rattle.packet.specs.Scan.{sqiFree, climaxFree, sideFree, scanAt, beginOf, withSqi, withClimax, withSide, takeSqi, takeClimax, takeSide, stepIn, stepOf, scanOf, noItems, startOf, endIn, endOf, itemsRead}
@@ -21,11 +22,6 @@ use Rattle.packet.specs.declared.items.Mode.the-variants.{Tail, First, N
 use Rattle.packet.specs.declared.items.Scan.{Scan}
 use Rattle.packet.specs.declared.items.ItemsRead.{ItemsRead}
 use Rattle.packet.specs.declared.items.ItemsRead.the-variants as read
-
--- a function of a choice is a choice of its values
-pub push : {A B : Type 0} (f : A → B) (t : Bool) (a b : A) → f (cond t a b) ≡ cond t (f a) (f b)
-push f true a b = refl
-push f false a b = refl
 
 -- ---- what the rest of the bytes leads to
 
@@ -169,10 +165,6 @@ abbrev outcome : Direction → Items → Found → ItemsRead
 outcome d k (found is) = takenIn d k is
 outcome d k broken = read.Broken
 
-either-way : {A : Type 0} (t : Bool) (a : A) → cond t a a ≡ a
-either-way true a = refl
-either-way false a = refl
-
 outcome-behind : (d : Direction) (k : Items) (i : Item) (f : Found)
     → outcome d k (behind i f) ≡ cond (fits d k i) (outcome d (plus k i) f) read.Broken
 outcome-behind d k i (found is) = refl
@@ -279,10 +271,6 @@ has-side true s true = refl
 has-side true s false = refl
 has-side false s r = refl
 
-or-false : (a b : Bool) → a || b ≡ false → a ≡ false
-or-false true b e = e
-or-false false b e = refl
-
 sqi-new : (i : SqiItem) (q m : ℕ) → sqiThere i ≡ false → sqi.Is q m ≡ orSqi i (sqi.Is q m)
 sqi-new sqi.Absent q m e = refl
 sqi-new (sqi.Is a b) q m e = cc
@@ -338,14 +326,14 @@ module _ (d : Direction) (k : Items) (v : ℕ) (is : List Item) where
       (merged k (item 1 v ∷ is)) (merged (withSqi k v) is)
       (λ e. fresh-more 1 k (withSqi k v) (λ u. has-sqi (eqb u 1) (sqiThere (k .sqi)) (eqb u 2 && climaxThere (k .climax)) (eqb u 5 && sideThere (k .side))) is)
       (λ e. ap (λ (i : SqiItem). record { sqi = i; climax = orClimax (k .climax) (climaxAmong is); side = orSide (k .side) (sideAmong is) })
-      (sqi-new (k .sqi) (quality v) (method v) (or-false (sqiThere (k .sqi)) false (or-false (sqiThere (k .sqi) || false) false e)))))
+      (sqi-new (k .sqi) (quality v) (method v) (or-left (sqiThere (k .sqi)) false (or-left (sqiThere (k .sqi) || false) false e)))))
   cons-is t two h =
       simp h
       (in-front (itemAllowed d (item 2 v)) (has k 2) (allAllowed d is) (noTypeTwice is) (hasType 2 is) (fresh k is) (fresh (withClimax k v) is)
       (merged k (item 2 v ∷ is)) (merged (withClimax k v) is)
       (λ e. fresh-more 2 k (withClimax k v) (λ u. has-climax (eqb u 2) (climaxThere (k .climax)) (eqb u 1 && sqiThere (k .sqi)) (eqb u 5 && sideThere (k .side))) is)
       (λ e. ap (λ (i : ClimaxItem). record { sqi = orSqi (k .sqi) (sqiAmong is); climax = i; side = orSide (k .side) (sideAmong is) })
-      (climax-new (k .climax) (delay v) (or-false (climaxThere (k .climax)) false e))))
+      (climax-new (k .climax) (delay v) (or-left (climaxThere (k .climax)) false e))))
   cons-is t five h =
       simp h
       (in-front (itemAllowed d (item 5 v)) (has k 5) (allAllowed d is) (noTypeTwice is) (hasType 5 is) (fresh k is) (fresh (withSide k v) is)

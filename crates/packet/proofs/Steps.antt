@@ -15,7 +15,6 @@ use Rattle.packet.specs.declared.message.Items.{Items}
 use Rattle.packet.specs.declared.message.Message.{Message}
 use Rattle.packet.specs.declared.items.ItemsRead.{ItemsRead}
 use Rattle.packet.specs.declared.items.ItemsRead.the-variants as items
-use Rattle.packet.proofs.Meaning.{push}
 
 -- a list of cases, in two pieces
 pub judged-split : {A : Type 0} (cs ds : List Case) (a : A) → judged (cs ++ ds) a ≡ andThen (judged cs tt) (judged ds a)

@@ -5,5 +5,6 @@ pub mod Items
 pub mod Refusals
 pub mod Reading
 pub mod Writing
+pub mod Quality
 pub mod Scan
 pub mod Steps

@@ -22,15 +22,33 @@ use Rattle.packet.specs.declared.message.Rx.{Rx}
 -- A message of one direction, as one of either: what its packets cannot say is off or absent.
 abbrev pub fromTx : Tx → Message
 fromTx m =
-    record
-    { sequence = m .sequence; timestamp = m .timestamp; ssrc = m .ssrc; ptt = m .ptt; squ = false; id = m .id; pm = m .pm; ptts = m .ptts
-    ; sct = false; items = record { sqi = sqi.Absent; climax = m .climax; side = m .side } }
+    record {
+      sequence = m .sequence;
+      timestamp = m .timestamp;
+      ssrc = m .ssrc;
+      ptt = m .ptt;
+      squ = false;
+      id = m .id;
+      pm = m .pm;
+      ptts = m .ptts;
+      sct = false;
+      items = record { sqi = sqi.Absent; climax = m .climax; side = m .side };
+    }
 
 abbrev pub fromRx : Rx → Message
 fromRx m =
-    record
-    { sequence = m .sequence; timestamp = m .timestamp; ssrc = m .ssrc; ptt = m .ptt; squ = m .squ; id = m .id; pm = m .pm; ptts = m .ptts
-    ; sct = m .sct; items = record { sqi = m .sqi; climax = climax.Absent; side = m .side } }
+    record {
+      sequence = m .sequence;
+      timestamp = m .timestamp;
+      ssrc = m .ssrc;
+      ptt = m .ptt;
+      squ = m .squ;
+      id = m .id;
+      pm = m .pm;
+      ptts = m .ptts;
+      sct = m .sct;
+      items = record { sqi = m .sqi; climax = climax.Absent; side = m .side };
+    }
 
 -- The items of a message, "by rising type".
 abbrev pub sqiListed : SqiItem → List Item

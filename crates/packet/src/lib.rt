@@ -1,12 +1,15 @@
 // The packet of document 01: messages, readers, refusals.
 // Start at specs/Packet.antt, Items.antt, Refusals.antt and Reading.antt, which say in 01's order what the public
-// functions promise; then reader.rt. Private: frame.rt (refusals 1 to 9), items.rt (11).
+// functions promise; then reader.rt. Private: frame.rt (refusals 1 to 9), items.rt (11). Apart from these, level.rt is
+// the quality of a level, said in specs/Quality.antt.
 mod frame;
 mod items;
+pub mod level;
 pub mod message;
 pub mod reader;
 pub mod refusal;
 
+pub use level::quality;
 pub use message::ClimaxItem;
 pub use message::Direction;
 pub use message::Rx;

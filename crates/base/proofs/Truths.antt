@@ -1,0 +1,29 @@
+-- What a test made of others says of each of them.
+use mathlib.Core.Path.{_≡_, refl}
+use mathlib.Core.Bool.{Bool, true, false, cond, not, _&&_, _||_}
+
+pub and-left : (a b : Bool) → a && b ≡ true → a ≡ true
+and-left true b e = refl
+and-left false b e = e
+
+pub and-right : (a b : Bool) → a && b ≡ true → b ≡ true
+and-right true b e = e
+and-right false b e = cc
+
+pub or-left : (a b : Bool) → a || b ≡ false → a ≡ false
+or-left true b e = e
+or-left false b e = refl
+
+pub or-right : (a b : Bool) → a || b ≡ false → b ≡ false
+or-right true b e = cc
+or-right false b e = e
+
+-- a function of a choice is a choice of its values
+pub push : {A B : Type 0} (f : A → B) (t : Bool) (a b : A) → f (cond t a b) ≡ cond t (f a) (f b)
+push f true a b = refl
+push f false a b = refl
+
+-- a choice between the same
+pub either-way : {A : Type 0} (t : Bool) (a : A) → cond t a a ≡ a
+either-way true a = refl
+either-way false a = refl

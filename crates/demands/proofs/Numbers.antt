@@ -1,0 +1,32 @@
+-- Numbers written into bytes and bits, and read from them.
+use Prim.Native.Nat.{ℕ, _+_, _*_, _/_, _%_, _<_, _≤_}
+use mathlib.Core.Path.{_≡_}
+use native.Mathlib.Omega.{arith}
+use Rattle.base.specs.Bytes.{placed}
+use Rattle.packet.specs.Packet.{pttType, squ, pttId, pm, ptts, sct, x, reserved}
+use Rattle.packet.specs.declared.message.Direction.the-variants.{Tx, Rx}
+
+pub joined16 : (n : ℕ) → n < 65536 → n / 256 % 256 * 256 + n % 256 ≡ n
+joined16 n h = omega arith
+
+pub joined32 : (n : ℕ) → n < 4294967296
+    → (n / 65536 / 256 % 256 * 256 + n / 65536 % 256) * 65536 + (n / 256 % 256 * 256 + n % 256) ≡ n
+joined32 n h = omega arith
+
+-- what the bits of a field say
+pub record FieldSays (f ptt squelch id muted summed several items : ℕ) : Type 0 where
+  pub narrow : f < 65536
+  pub ptt-is : pttType f ≡ ptt
+  pub squ-is : squ f ≡ squelch
+  pub id-is : pttId f ≡ id
+  pub pm-is : pm f ≡ muted
+  pub ptts-is : ptts f ≡ summed
+  pub sct-is : sct f ≡ several
+  pub x-is : x f ≡ items
+  pub tx-reserved : several ≡ 0 → reserved Tx f ≡ 0
+  pub rx-reserved : reserved Rx f ≡ 0
+
+pub field-says : (ptt squ id pm ptts sct x : ℕ) → ptt ≤ 5 → squ ≤ 1 → id ≤ 63 → pm ≤ 1 → ptts ≤ 1 → sct ≤ 1 → x ≤ 1
+    → FieldSays (placed 16 0 3 ptt + placed 16 3 1 squ + placed 16 4 6 id + placed 16 10 1 pm + placed 16 11 1 ptts + placed 16 12 1 sct + placed 16 15 1 x)
+    ptt squ id pm ptts sct x
+field-says ptt squ id pm ptts sct x hptt hsqu hid hpm hptts hsct hx = omega arith
