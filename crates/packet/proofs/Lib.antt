@@ -1,4 +1,5 @@
 pub mod Meaning
 pub mod Steps
+pub mod TellApart
 pub mod Levels
 pub mod QualityLaws

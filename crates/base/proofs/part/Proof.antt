@@ -5,31 +5,22 @@ use borrow.Author.Needs.{needs}
 use Rattle.base.proofs.Parts.{part-is}
 use Rattle.base.proofs.part.Statement.{statement}
 use Rattle.base.proofs.part.Tie as tie
-use Rattle.base.proofs.part.Reads as reads
-use Rattle.base.proofs.part.Lts as lts
-use Rattle.base.proofs.least.Reads as least-reads
 
--- src/lib.rt:59:9
 least-requires : tie.Need-least-requires
 least-requires c κs = search needs
 
--- src/lib.rt:60:9
 least-requires-2 : tie.Need-least-requires-2
 least-requires-2 c κs = search needs
 
--- src/lib.rt:61:5
 sub-result : tie.Need-sub-result
 sub-result c = search needs
 
--- src/lib.rt:61:5
 part-result-start : tie.Need-part-result-start
 part-result-start c = search needs
 
--- src/lib.rt:61:5
 part-result-end : tie.Need-part-result-end
 part-result-end c = search needs
 
--- src/lib.rt:55:1
 returns : tie.Need-returns
 returns c =
     let a = c .before .before .before .before .args in

@@ -4,53 +4,41 @@ use Rattle.packet.specs.Steps.{headVerdict}
 use borrow.Author.Needs.{needs}
 use Rattle.packet.proofs.frame.head_verdict.Statement.{statement}
 use Rattle.packet.proofs.frame.head_verdict.Tie as tie
-use Rattle.packet.proofs.frame.head_verdict.Reads as reads
-use Rattle.packet.proofs.frame.head_verdict.Lts as lts
 
--- src/frame.rt:16:9
 returns : tie.Need-returns
 unfolding headVerdict readerRefusals
 returns c = search tests
 
--- src/frame.rt:18:14
 shared-slice-read-b0 : tie.Need-shared-slice-read-b0
 shared-slice-read-b0 c = search needs
 
--- src/frame.rt:19:14
 shared-slice-read-b1 : tie.Need-shared-slice-read-b1
 shared-slice-read-b1 c = search needs
 
--- src/frame.rt:22:9
 returns-2 : tie.Need-returns-2
 unfolding headVerdict readerRefusals
 returns-2 c = search tests
 
--- src/frame.rt:26:9
 returns-3 : tie.Need-returns-3
 unfolding headVerdict readerRefusals
 returns-3 c = search tests
 
--- src/frame.rt:30:9
 returns-4 : tie.Need-returns-4
 unfolding headVerdict readerRefusals
 returns-4 c = search tests
 
--- src/frame.rt:34:9
 returns-5 : tie.Need-returns-5
 unfolding headVerdict readerRefusals
 returns-5 c = search tests
 
--- src/frame.rt:38:9
 returns-6 : tie.Need-returns-6
 unfolding headVerdict readerRefusals
 returns-6 c = search tests
 
--- src/frame.rt:41:9
 returns-7 : tie.Need-returns-7
 unfolding headVerdict readerRefusals
 returns-7 c = search tests
 
--- src/frame.rt:12:1
 returns-8 : tie.Need-returns-8
 unfolding headVerdict readerRefusals
 returns-8 c = search tests

@@ -2,62 +2,46 @@ use Rattle.base.specs.Tests.{tests}
 use borrow.Author.Needs.{needs}
 use Rattle.packet.proofs.items.end.Statement.{statement}
 use Rattle.packet.proofs.items.end.Tie as tie
-use Rattle.packet.proofs.items.end.Reads as reads
-use Rattle.packet.proofs.items.end.Lts as lts
 
--- src/items.rt:228:23
 enum-told : tie.Need-enum-told
 enum-told c = search needs
 
--- src/items.rt:229:23
 enum-told-2 : tie.Need-enum-told-2
 enum-told-2 c = search needs
 
--- src/items.rt:230:24
 enum-told-3 : tie.Need-enum-told-3
 enum-told-3 c = search needs
 
--- src/items.rt:231:22
 enum-told-4 : tie.Need-enum-told-4
 enum-told-4 c = search needs
 
--- src/items.rt:232:25
 enum-told-5 : tie.Need-enum-told-5
 enum-told-5 c = search needs
 
--- src/items.rt:233:23
 enum-told-6 : tie.Need-enum-told-6
 enum-told-6 c = search needs
 
--- src/items.rt:234:25
 enum-told-7 : tie.Need-enum-told-7
 enum-told-7 c = search needs
 
--- src/items.rt:222:1
 returns : tie.Need-returns
 returns c = search (tests, c .enum-told .given .1)
 
--- src/items.rt:222:1
 returns-2 : tie.Need-returns-2
 returns-2 c = search (tests, c .enum-told2 .given .1)
 
--- src/items.rt:222:1
 returns-3 : tie.Need-returns-3
 returns-3 c = search needs
 
--- src/items.rt:222:1
 returns-4 : tie.Need-returns-4
 returns-4 c = search needs
 
--- src/items.rt:222:1
 returns-5 : tie.Need-returns-5
 returns-5 c = search needs
 
--- src/items.rt:222:1
 returns-6 : tie.Need-returns-6
 returns-6 c = search needs
 
--- src/items.rt:222:1
 returns-7 : tie.Need-returns-7
 returns-7 c = search needs
 

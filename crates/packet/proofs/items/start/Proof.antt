@@ -1,14 +1,10 @@
 use Rattle.base.specs.Tests.{tests}
 use Rattle.packet.proofs.items.start.Statement.{statement}
 use Rattle.packet.proofs.items.start.Tie as tie
-use Rattle.packet.proofs.items.start.Reads as reads
-use Rattle.packet.proofs.items.start.Lts as lts
 
--- src/items.rt:211:1
 returns : tie.Need-returns
 returns c = search (tests, c .if1 .taken)
 
--- src/items.rt:211:1
 returns-2 : tie.Need-returns-2
 returns-2 c = search (tests, c .if1 .left)
 

@@ -2,15 +2,11 @@ use Rattle.packet.specs.Scan.{takeClimax}
 use Rattle.base.specs.Tests.{tests}
 use Rattle.packet.proofs.items.take_climax.Statement.{statement}
 use Rattle.packet.proofs.items.take_climax.Tie as tie
-use Rattle.packet.proofs.items.take_climax.Reads as reads
-use Rattle.packet.proofs.items.take_climax.Lts as lts
 
--- src/items.rt:138:1
 returns : tie.Need-returns
 unfolding takeClimax
 returns c = search (tests, c .if1 .taken)
 
--- src/items.rt:138:1
 returns-2 : tie.Need-returns-2
 unfolding takeClimax
 returns-2 c = search (tests, c .if1 .left)

@@ -2,20 +2,15 @@ use Rattle.packet.specs.Scan.{takeSide}
 use Rattle.base.specs.Tests.{tests}
 use Rattle.packet.proofs.items.take_side.Statement.{statement}
 use Rattle.packet.proofs.items.take_side.Tie as tie
-use Rattle.packet.proofs.items.take_side.Reads as reads
-use Rattle.packet.proofs.items.take_side.Lts as lts
 
--- src/items.rt:158:9
 returns : tie.Need-returns
 unfolding takeSide
 returns c = search (tests, c .if1 .taken)
 
--- src/items.rt:151:1
 returns-2 : tie.Need-returns-2
 unfolding takeSide
 returns-2 c = search (tests, c .if2 .taken, c .before .if1 .left)
 
--- src/items.rt:151:1
 returns-3 : tie.Need-returns-3
 unfolding takeSide
 returns-3 c = search (tests, c .if2 .left, c .before .if1 .left)

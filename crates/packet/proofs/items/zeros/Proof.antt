@@ -2,23 +2,16 @@ use Rattle.base.specs.Tests.{tests}
 use borrow.Author.Needs.{needs}
 use Rattle.packet.proofs.items.zeros.Statement.{statement}
 use Rattle.packet.proofs.items.zeros.Tie as tie
-use Rattle.packet.proofs.items.zeros.Reads as reads
-use Rattle.packet.proofs.items.zeros.Lts as lts
-use Rattle.packet.proofs.items.at.Reads as at-reads
 
--- src/items.rt:217:9
 at-requires : tie.Need-at-requires
 at-requires c κs = search needs
 
--- src/items.rt:217:9
 returns : tie.Need-returns
 returns c = search (tests, c .at .ensures, c .before .if1 .taken)
 
--- src/items.rt:219:5
 at-requires-2 : tie.Need-at-requires-2
 at-requires-2 c κs = search needs
 
--- src/items.rt:213:1
 returns-2 : tie.Need-returns-2
 returns-2 c = search (tests, c .at2 .ensures, c .before .if1 .left)
 

@@ -10,57 +10,37 @@ use Rattle.packet.proofs.Steps.{items-then-payload}
 use borrow.Author.Needs.{needs}
 use Rattle.packet.proofs.reader.content.Statement.{statement}
 use Rattle.packet.proofs.reader.content.Tie as tie
-use Rattle.packet.proofs.reader.content.Reads as reads
-use Rattle.packet.proofs.reader.content.Lts as lts
-use Rattle.base.proofs.part.Reads as part-reads
-use Rattle.packet.proofs.frame.field.Reads as field-reads
-use Rattle.packet.proofs.frame.payload_at.Reads as payload-at-reads
-use Rattle.packet.proofs.frame.words_at.Reads as words-at-reads
-use Rattle.packet.proofs.items.items.Reads as items-reads
-use Rattle.packet.proofs.reader.field_allowed.Reads as field-allowed-reads
-use Rattle.packet.proofs.reader.with_items.Reads as with-items-reads
 
--- src/reader.rt:124:9
 field-requires : tie.Need-field-requires
 field-requires c κs = search needs
 
--- src/reader.rt:125:9
 field-allowed-requires : tie.Need-field-allowed-requires
 field-allowed-requires c κs = search needs
 
--- src/reader.rt:127:21
 words-at-requires : tie.Need-words-at-requires
 words-at-requires c κs = search needs
 
--- src/reader.rt:127:21
 cast-words : tie.Need-cast-words
 cast-words c = search needs
 
--- src/reader.rt:128:28
 add-part : tie.Need-add-part
 add-part c = search needs
 
--- src/reader.rt:128:39
 payload-at-requires : tie.Need-payload-at-requires
 payload-at-requires c κs = search needs
 
--- src/reader.rt:128:39
 cast-part : tie.Need-cast-part
 cast-part c = search needs
 
--- src/reader.rt:128:13
 part-requires : tie.Need-part-requires
 part-requires c κs = search needs
 
--- src/reader.rt:129:23
 items-requires : tie.Need-items-requires
 items-requires c κs = search needs
 
--- src/reader.rt:129:9
 with-items-requires : tie.Need-with-items-requires
 with-items-requires c κs = search needs
 
--- src/reader.rt:121:1
 returns : tie.Need-returns
 unfolding contentAnswer readerRefusals payloadAnswer messageOf afterField
 returns c =
@@ -76,7 +56,6 @@ returns c =
     ∙ items-then-payload (a .d) p
     ∙ simp allowed
 
--- src/reader.rt:121:1
 returns-2 : tie.Need-returns-2
 unfolding contentAnswer readerRefusals
 returns-2 c =

@@ -3,33 +3,25 @@ use Rattle.base.specs.Tests.{tests}
 use borrow.Author.Needs.{needs}
 use Rattle.packet.proofs.reader.field_allowed.Statement.{statement}
 use Rattle.packet.proofs.reader.field_allowed.Tie as tie
-use Rattle.packet.proofs.reader.field_allowed.Reads as reads
-use Rattle.packet.proofs.reader.field_allowed.Lts as lts
 
--- src/reader.rt:141:9
 returns : tie.Need-returns
 unfolding fieldAllowed
 returns c = search (tests, c .if1 .taken)
 
--- src/reader.rt:145:23
 enum-told : tie.Need-enum-told
 enum-told c = search needs
 
--- src/reader.rt:147:17
 returns-2 : tie.Need-returns-2
 unfolding fieldAllowed
 returns-2 c = search (tests, c .if2 .taken, c .before .enum-told .given .1, c .before .before .before .if1 .left)
 
--- src/reader.rt:151:26
 enum-told-2 : tie.Need-enum-told-2
 enum-told-2 c = search needs
 
--- src/reader.rt:136:1
 returns-3 : tie.Need-returns-3
 unfolding fieldAllowed
 returns-3 c = search (tests, c .if2 .left, c .before .enum-told .given .1, c .before .before .before .if1 .left)
 
--- src/reader.rt:136:1
 returns-4 : tie.Need-returns-4
 unfolding fieldAllowed
 returns-4 c = search (tests, c .enum-told2 .given .1, c .before .before .if1 .left)

@@ -7,24 +7,16 @@ use Rattle.packet.specs.Packet.{payload, payloadAt}
 use borrow.Author.Needs.{needs}
 use Rattle.packet.proofs.reader.payload.Statement.{statement}
 use Rattle.packet.proofs.reader.payload.Tie as tie
-use Rattle.packet.proofs.reader.payload.Reads as reads
-use Rattle.packet.proofs.reader.payload.Lts as lts
-use Rattle.base.proofs.part.Reads as part-reads
-use Rattle.packet.proofs.frame.payload_at.Reads as payload-at-reads
 
--- src/reader.rt:60:13
 payload-at-requires : tie.Need-payload-at-requires
 payload-at-requires c κs = search needs
 
--- src/reader.rt:60:13
 cast-part : tie.Need-cast-part
 cast-part c = search needs
 
--- src/reader.rt:60:5
 part-requires : tie.Need-part-requires
 part-requires c κs = search needs
 
--- src/reader.rt:56:1
 returns : tie.Need-returns
 unfolding payload
 returns c =

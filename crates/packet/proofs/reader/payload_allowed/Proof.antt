@@ -3,20 +3,14 @@ use Rattle.base.specs.Tests.{tests}
 use borrow.Author.Needs.{needs}
 use Rattle.packet.proofs.reader.payload_allowed.Statement.{statement}
 use Rattle.packet.proofs.reader.payload_allowed.Tie as tie
-use Rattle.packet.proofs.reader.payload_allowed.Reads as reads
-use Rattle.packet.proofs.reader.payload_allowed.Lts as lts
-use Rattle.packet.proofs.reader.audio_length.Reads as audio-length-reads
 
--- src/reader.rt:193:9
 audio-length-requires : tie.Need-audio-length-requires
 audio-length-requires c κs = search needs
 
--- src/reader.rt:193:9
 returns : tie.Need-returns
 unfolding payloadAllowed
 returns c = search (tests, c .audio-length .ensures, c .before .if1 .taken)
 
--- src/reader.rt:189:1
 returns-2 : tie.Need-returns-2
 unfolding payloadAllowed
 returns-2 c = search (tests, c .if1 .left)

@@ -2,33 +2,23 @@ use Rattle.packet.specs.Reading.{readRx}
 use borrow.Author.Needs.{needs}
 use Rattle.packet.proofs.reader.read_rx.Statement.{statement}
 use Rattle.packet.proofs.reader.read_rx.Tie as tie
-use Rattle.packet.proofs.reader.read_rx.Reads as reads
-use Rattle.packet.proofs.reader.read_rx.Lts as lts
-use Rattle.packet.proofs.reader.as_rx.Reads as as-rx-reads
-use Rattle.packet.proofs.reader.read.Reads as read-reads
 
--- src/reader.rt:48:9
 read-requires : tie.Need-read-requires
 read-requires c κs = search needs
 
--- src/reader.rt:50:26
 enum-known-told : tie.Need-enum-known-told
 enum-known-told c = search needs
 
--- src/reader.rt:51:26
 enum-known-told-2 : tie.Need-enum-known-told-2
 enum-known-told-2 c = search needs
 
--- src/reader.rt:51:48
 as-rx-requires : tie.Need-as-rx-requires
 as-rx-requires c κs = search needs
 
--- src/reader.rt:45:1
 returns : tie.Need-returns
 unfolding readRx
 returns c = simp (← c .before .before .before .read .ensures, c .before .told .given .1)
 
--- src/reader.rt:45:1
 returns-2 : tie.Need-returns-2
 unfolding readRx
 returns-2 c = simp (c .as-rx .ensures, ← c .before .before .before .before .read .ensures, c .before .before .told2 .given .1)

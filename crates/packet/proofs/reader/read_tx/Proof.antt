@@ -2,33 +2,23 @@ use Rattle.packet.specs.Reading.{readTx}
 use borrow.Author.Needs.{needs}
 use Rattle.packet.proofs.reader.read_tx.Statement.{statement}
 use Rattle.packet.proofs.reader.read_tx.Tie as tie
-use Rattle.packet.proofs.reader.read_tx.Reads as reads
-use Rattle.packet.proofs.reader.read_tx.Lts as lts
-use Rattle.packet.proofs.reader.as_tx.Reads as as-tx-reads
-use Rattle.packet.proofs.reader.read.Reads as read-reads
 
--- src/reader.rt:37:9
 read-requires : tie.Need-read-requires
 read-requires c κs = search needs
 
--- src/reader.rt:39:26
 enum-known-told : tie.Need-enum-known-told
 enum-known-told c = search needs
 
--- src/reader.rt:40:26
 enum-known-told-2 : tie.Need-enum-known-told-2
 enum-known-told-2 c = search needs
 
--- src/reader.rt:40:48
 as-tx-requires : tie.Need-as-tx-requires
 as-tx-requires c κs = search needs
 
--- src/reader.rt:34:1
 returns : tie.Need-returns
 unfolding readTx
 returns c = simp (← c .before .before .before .read .ensures, c .before .told .given .1)
 
--- src/reader.rt:34:1
 returns-2 : tie.Need-returns-2
 unfolding readTx
 returns-2 c = simp (c .as-tx .ensures, ← c .before .before .before .before .read .ensures, c .before .before .told2 .given .1)

@@ -2,28 +2,20 @@ use Rattle.packet.specs.Steps.{itemsAnswer}
 use borrow.Author.Needs.{needs}
 use Rattle.packet.proofs.reader.with_items.Statement.{statement}
 use Rattle.packet.proofs.reader.with_items.Tie as tie
-use Rattle.packet.proofs.reader.with_items.Reads as reads
-use Rattle.packet.proofs.reader.with_items.Lts as lts
-use Rattle.packet.proofs.reader.with_payload.Reads as with-payload-reads
 
--- src/reader.rt:159:47
 enum-told : tie.Need-enum-told
 enum-told c = search needs
 
--- src/reader.rt:160:26
 enum-known-found : tie.Need-enum-known-found
 enum-known-found c = search needs
 
--- src/reader.rt:160:32
 with-payload-requires : tie.Need-with-payload-requires
 with-payload-requires c κs = search needs
 
--- src/reader.rt:155:1
 returns : tie.Need-returns
 unfolding itemsAnswer
 returns c = simp (c .enum-told .given .1)
 
--- src/reader.rt:155:1
 returns-2 : tie.Need-returns-2
 unfolding itemsAnswer
 returns-2 c = simp (c .with-payload .ensures, c .before .before .found .given .1)

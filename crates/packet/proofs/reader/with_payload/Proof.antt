@@ -6,30 +6,19 @@ use Rattle.packet.specs.Steps.{payloadAnswer}
 use borrow.Author.Needs.{needs}
 use Rattle.packet.proofs.reader.with_payload.Statement.{statement}
 use Rattle.packet.proofs.reader.with_payload.Tie as tie
-use Rattle.packet.proofs.reader.with_payload.Reads as reads
-use Rattle.packet.proofs.reader.with_payload.Lts as lts
-use Rattle.packet.proofs.frame.payload_type.Reads as payload-type-reads
-use Rattle.packet.proofs.reader.message.Reads as message-reads
-use Rattle.packet.proofs.reader.payload.Reads as payload-reads
-use Rattle.packet.proofs.reader.payload_allowed.Reads as payload-allowed-reads
 
--- src/reader.rt:167:18
 payload-requires : tie.Need-payload-requires
 payload-requires c κs = search needs
 
--- src/reader.rt:168:35
 payload-type-requires : tie.Need-payload-type-requires
 payload-type-requires c κs = search needs
 
--- src/reader.rt:168:9
 payload-allowed-requires : tie.Need-payload-allowed-requires
 payload-allowed-requires c κs = search needs
 
--- src/reader.rt:170:26
 message-requires : tie.Need-message-requires
 message-requires c κs = search needs
 
--- src/reader.rt:164:1
 returns : tie.Need-returns
 unfolding payloadAnswer readerRefusals
 returns c =
@@ -39,7 +28,6 @@ returns c =
     b .payload-allowed .ensures ∙ simp (b .before .payload-type .ensures, b .before .before .payload .ensures .0) in
     simp (c .message .ensures, ← known, c .before .if1 .taken)
 
--- src/reader.rt:164:1
 returns-2 : tie.Need-returns-2
 unfolding payloadAnswer readerRefusals
 returns-2 c =
