@@ -2,7 +2,7 @@
 use Prim.Native.Nat.{ℕ, _+_, _*_, _-_, _/_, _%_, _^_, _<_}
 use mathlib.Core.Bool.{Bool, cond}
 use mathlib.Core.List.{List, [], _∷_, _++_}
-use lib.ListN.{length, getD, take, drop}
+use lib.ListN.{length, getD, take, drop, replicate}
 use lib.Dec.{eqb}
 use mathlib.Core.Path.{_≡_}
 use denote.Ref.{RefT}
@@ -55,3 +55,11 @@ bit b = cond b 1 0
 -- a list of bytes, as every lent slice is
 abbrev pub Bytes : List ℕ → Type 0
 Bytes s = (i : ℕ) → byteAt s i < 256
+
+-- a buffer with bytes laid over its front: as many as there is room for, and every byte behind them as it was
+unfoldable pub overlaid : (bytes buffer : List ℕ) → List ℕ
+overlaid bytes buffer = take (length buffer) bytes ++ drop (length bytes) buffer
+
+-- bytes with zeros behind them, up to a length
+abbrev pub padded : ℕ → List ℕ → List ℕ
+padded n bytes = take n (bytes ++ replicate n 0)

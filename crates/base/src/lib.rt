@@ -3,8 +3,8 @@
 // order.rt has the order of packets, said in specs/Order.antt.
 ghost use mathlib.Core.Path.{_≡_};
 ghost use Prim.Native.Nat.{_+_, _*_, _-_, min};
-ghost use lib.ListN.{length, take, drop};
-ghost use Rattle.base.specs.Bytes.{byteAt, number16, number32, partOf, LiesAt};
+ghost use lib.ListN.{length};
+ghost use Rattle.base.specs.Bytes.{byteAt, number16, number32, bit, partOf, LiesAt, overlaid};
 
 pub mod order;
 
@@ -59,6 +59,13 @@ pub fn least(a: usize, b: usize) -> usize
     if a < b { a } else { b }
 }
 
+// A truth as a bit.
+pub fn bit(b: bool) -> u8
+    ensures { λ r. ⌜ r ≡ bit b ⌝ }
+{
+    if b { 1 } else { 0 }
+}
+
 // The part from one place up to another; what lies past the end is left out.
 pub fn part(s: &[u8], from: usize, to: usize) -> &[u8]
     ensures holds { λ r. ⌜ now r ≡ partOf from to (now (s .entry)) ⌝ }
@@ -67,4 +74,14 @@ pub fn part(s: &[u8], from: usize, to: usize) -> &[u8]
     let end = least(to, s.len());
     let start = least(from, end);
     &s[start..end]
+}
+
+// Lays bytes over the front of a buffer, as many as there is room for, and answers how many.
+pub fn copy_in(out: &mut [u8], from: &[u8]) -> usize
+    ensures { λ r. ⌜ r ≡ min (length (now (from .entry))) (length (now (out .entry))) ⌝ }
+    ensures { λ _. ⌜ now (out .exit) ≡ overlaid (now (from .entry)) (now (out .entry)) ⌝ }
+{
+    let n = least(from.len(), out.len());
+    let fitting = &from[0..n];
+    bytes::copy(fitting, out)
 }

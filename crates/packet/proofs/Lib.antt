@@ -3,3 +3,5 @@ pub mod Steps
 pub mod TellApart
 pub mod Levels
 pub mod QualityLaws
+pub mod Words
+pub mod Written

@@ -7,6 +7,9 @@ use Rattle.packet.specs.Refusals.{numberOf, Answer, accepted, refused, r
 use Rattle.packet.specs.Reading.{txAnswer, rxAnswer}
 use Rattle.packet.specs.declared.refusal.Refusal.{Refusal}
 use Rattle.packet.specs.declared.refusal.Refusal.the-variants.{TooShort, WrongVersion, PaddingOrMarker, NoExtension, PayloadType, ExtensionCut, ExtensionType, WordCount, WordsCut, FieldRule, ItemRule, PayloadLength, NoSuchSeat, SeatNotOpen, SeatOpenAlready, PeriodOrMultiplier, LessonCoupling, CouplingTaken, OtherSsrc, NotAfterLast, KeyingNotAllowed, OtherId, SideNotAllowed, ElapsedTooLong, ReportAudio, BufferTooShort, UnwritableValue}
+use Rattle.packet.specs.Writing.{writtenAnswer}
+use Rattle.packet.specs.declared.writer.Written.{Written}
+use Rattle.packet.specs.declared.writer.Written.the-variants as written
 use Rattle.packet.specs.declared.reader.TxRead.{TxRead}
 use Rattle.packet.specs.declared.reader.TxRead.the-variants as tx
 use Rattle.packet.specs.declared.reader.RxRead.{RxRead}
@@ -94,3 +97,9 @@ rx-tells (rx.Message m) (rx.Message n) e = cc
 rx-tells (rx.Message m) (rx.Refused r) e = absurd (never m r e)
 rx-tells (rx.Refused r) (rx.Message m) e = absurd (never m r (sym e))
 rx-tells (rx.Refused r) (rx.Refused s) e = ap rx.Refused (refusal-tells r s e)
+
+pub written-tells : (a b : Written) → writtenAnswer a ≡ writtenAnswer b → a ≡ b
+written-tells (written.Length m) (written.Length n) e = cc
+written-tells (written.Length m) (written.Refused r) e = absurd (never m r e)
+written-tells (written.Refused r) (written.Length m) e = absurd (never m r (sym e))
+written-tells (written.Refused r) (written.Refused s) e = ap written.Refused (refusal-tells r s e)

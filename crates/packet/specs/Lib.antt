@@ -1,4 +1,4 @@
--- What the packet means, in the order of document 01: Packet, Items, Refusals, Reading. Scan and Steps say what the
+-- What the packet means, in the order of document 01: Packet, Items, Refusals, Reading, Writing, Quality. Scan and Steps say what the
 -- reader's private functions do, and are needed for no public promise.
 pub mod Packet
 pub mod Items

@@ -7,7 +7,7 @@ use lib.Dec.{ltb, leb, eqb}
 use Rattle.base.specs.Bytes.{bytes8, bytes16, bytes32, placed, bit}
 use Rattle.packet.specs.Packet.{audio, r2s, audioLength}
 use Rattle.packet.specs.Items.{Item, someItem, sqiAllowed}
-use Rattle.packet.specs.Refusals.{Case, _if_, Answer, accepted, refused, judged}
+use Rattle.packet.specs.Refusals.{Case, _if_, Answer, accepted, refused, refusal, judged}
 use Rattle.packet.specs.declared.message.SqiItem.{SqiItem}
 use Rattle.packet.specs.declared.message.SqiItem.the-variants as sqi
 use Rattle.packet.specs.declared.message.ClimaxItem.{ClimaxItem}
@@ -18,6 +18,8 @@ use Rattle.packet.specs.declared.message.Items.{Items}
 use Rattle.packet.specs.declared.message.Message.{Message}
 use Rattle.packet.specs.declared.message.Tx.{Tx}
 use Rattle.packet.specs.declared.message.Rx.{Rx}
+use Rattle.packet.specs.declared.writer.Written.{Written}
+use Rattle.packet.specs.declared.writer.Written.the-variants as written
 
 -- A message of one direction, as one of either: what its packets cannot say is off or absent.
 abbrev pub fromTx : Tx → Message
@@ -108,9 +110,12 @@ abbrev pub climaxWritable : ClimaxItem → Bool
 climaxWritable climax.Absent = true
 climaxWritable (climax.Is delay) = leb delay 127
 
+abbrev pub audioWritable : (audioLength : ℕ) → Bool
+audioWritable n = eqb n 0 || audioLength n
+
 unfoldable pub writable : Message → (audioLength : ℕ) → Bool
 writable m n =
-    leb (m .ptt) 5 && leb (m .id) 63 && sqiWritable (m .items .sqi) && climaxWritable (m .items .climax) && (eqb n 0 || audioLength n)
+    leb (m .ptt) 5 && leb (m .id) 63 && sqiWritable (m .items .sqi) && climaxWritable (m .items .climax) && audioWritable n
 
 -- "Writers 27, 26."
 unfoldable pub writerRefusals : (ext : ℕ) → Message → (audio : List ℕ) → (room : ℕ) → List Case
@@ -129,3 +134,8 @@ filled (refused n c) packet buffer = buffer
 
 unfoldable pub buffered : (ext : ℕ) → Message → (audio buffer : List ℕ) → List ℕ
 buffered ext m sound buffer = filled (write ext m sound (length buffer)) (encode ext m sound) buffer
+
+-- The answer of the code, as 01 writes it.
+abbrev pub writtenAnswer : Written → Answer ℕ
+writtenAnswer (written.Length n) = accepted n
+writtenAnswer (written.Refused r) = refusal r

@@ -1,12 +1,14 @@
-// The packet of document 01: messages, readers, refusals.
-// Start at specs/Packet.antt, Items.antt, Refusals.antt and Reading.antt, which say in 01's order what the public
-// functions promise; then reader.rt. Private: frame.rt (refusals 1 to 9), items.rt (11). Apart from these, level.rt is
-// the quality of a level, said in specs/Quality.antt.
+// The packet of document 01: messages, readers, writers, refusals.
+// Start at specs/Packet.antt, Items.antt, Refusals.antt, Reading.antt and Writing.antt, which say in 01's order what the
+// public functions promise; then reader.rt and writer.rt. Private: frame.rt (refusals 1 to 9), items.rt (11), plain.rt
+// (the bytes that a writer puts). Apart from these, level.rt is the quality of a level, said in specs/Quality.antt.
 mod frame;
 mod items;
+mod plain;
 pub mod level;
 pub mod message;
 pub mod reader;
+pub mod writer;
 pub mod refusal;
 
 pub use level::quality;
@@ -25,3 +27,6 @@ pub use reader::read_tx;
 pub use refusal::Refusal;
 pub use refusal::cause;
 pub use refusal::number;
+pub use writer::Written;
+pub use writer::write_rx;
+pub use writer::write_tx;
