@@ -38,6 +38,9 @@ module _ (s : List ℕ) (small : Bytes s) where
   pub number16-small : (i : ℕ) → number16 s i < 65536
   number16-small i = omega (arith, small i, small (i + 1))
 
+  pub number32-small : (i : ℕ) → number32 s i < 4294967296
+  number32-small i = omega (arith, number16-small i, number16-small (i + 2))
+
   pub number16-back : (i : ℕ) → i + 1 < length s → take 2 (drop i s) ≡ bytes16 (number16 s i)
   number16-back i h =
       taken-in-two 1 1 i s

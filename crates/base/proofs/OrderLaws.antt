@@ -1,4 +1,4 @@
--- 01, Order of packets: what the distance is known by, and the printed cases.
+-- 01, Order of packets: what the distance is known by. The printed cases are in demands, Examples.
 use Prim.Native.Nat.{ℕ, _+_, _%_, _≤_}
 use mathlib.Core.Path.{_≡_, refl, sym, _∙_, ap}
 use mathlib.Core.Bool.{Bool, true, false}
@@ -35,9 +35,7 @@ pub missing-is : (last new : ℕ) → late true last new ≡ false → pos (miss
 unfolding late missing
 missing-is last new = d.one-more (distance last new)
 
--- "65535 then 0: none missing. 10 then 32777: 32766 missing. 10 then 32778: refused 20."
-pub printed : (late true 65535 0 ≡ false) × (missing true 65535 0 ≡ 0)
-    × (late true 10 32777 ≡ false) × (missing true 10 32777 ≡ 32766)
-    × (late true 10 32778 ≡ true) × (distance 10 32778 ≡ negℤ (pos 32768))
-unfolding late missing distance centred
-printed = (refl, refl, refl, refl, refl, refl)
+-- each end is met
+pub ends : (distance 10 32777 ≡ pos 32767) × (distance 10 32778 ≡ negℤ (pos 32768))
+unfolding distance centred
+ends = (refl, refl)

@@ -10,7 +10,7 @@ use Rattle.packet.specs.Reading.{readerRefusals, messageOf, read, readTx, readR
 use Rattle.packet.specs.declared.message.Direction.the-variants as direction
 use Rattle.demands.specs.Exact.{Exact, ReadersExact}
 
-never : {A : Type 0} (a : A) (n c : ℕ) → accepted a ≡ refused n c → ⊥
+pub never : {A : Type 0} (a : A) (n c : ℕ) → accepted a ≡ refused n c → ⊥
 never a n c e = let z : _≡_ {A = ℕ} 0 1 = cc in omega arith
 
 module _ {A : Type 0} (a : A) where

@@ -1,29 +1,27 @@
 -- An accepted packet, taken apart and written out again.
-use Prim.Native.Nat.{ℕ, zero, suc, _+_, _*_, _-_, _/_, _%_, _≤_, _<_}
+use Prim.Native.Nat.{ℕ, zero, suc, _+_, _*_, _-_, _/_, _%_, _<_}
 use mathlib.Core.Path.{_≡_, refl, ap, sym, _∙_}
-use mathlib.Core.Bool.{Bool, true, false, cond, not, _&&_, _||_}
+use mathlib.Core.Bool.{Bool, true, false, cond, _&&_}
 use mathlib.Core.List.{List, [], _∷_, _++_, append-assoc}
 use native.Mathlib.Omega.{arith}
 use native.Mathlib.Nat.{div-div-eq-div-mul, div-add-mod', div-one}
-use lib.Dec.{ltb, leb, eqb}
-use lib.ListN.{length, take, drop, getD, replicate, length-take, length-drop}
+use lib.Dec.{leb, eqb}
+use lib.ListN.{length, take, drop, replicate, length-take, length-drop}
 use lib.Seq.{getD-drop}
-use borrow.Author.Tests.{ltb-false, leb-true, eqb-true, eqb-false, not-false}
-use Rattle.base.specs.Bytes.{byteAt, number16, number32, bytes8, bytes16, bytes32, bits, placed, bit, isSet, partOf, Bytes}
+use borrow.Author.Tests.{eqb-true, eqb-false}
+use Rattle.base.specs.Bytes.{byteAt, bytes8, bytes16, bytes32, bits, placed, bit, isSet, Bytes}
 use Rattle.base.proofs.Truths.{and-left, and-right}
 use Rattle.base.proofs.Numbers.{cut, byte-back, number16-back, number32-back, number16-small}
-use Rattle.packet.specs.Packet.{version, padding, extension, csrcCount, marker, payloadType, sequence, timestamp, ssrc, extensionAt, extensionType, wordCount, wordsAt, payloadAt, payload, field, pttType, squ, pttId, pm, ptts, sct, x, reserved, squAllowed, fieldAllowed, afterField}
-use Rattle.packet.specs.Items.{Item, Found, found, broken, someItem, itemsIn, itemsAllowed, runAllowed, itemsOf, listed, allZero, allAllowed, noTypeTwice, kept}
-use Rattle.packet.specs.Refusals.{Case, NoCase, Answer, accepted, judged}
-use Rattle.packet.specs.Reading.{readerRefusals, messageOf, messageWith, read}
+use Rattle.packet.specs.Packet.{csrcCount, payloadType, sequence, timestamp, ssrc, extensionAt, wordCount, wordsAt, payloadAt, payload, field, pttType, squ, pttId, pm, ptts, sct, x, reserved, squAllowed, fieldAllowed, afterField}
+use Rattle.packet.specs.Items.{Item, Found, found, broken, someItem, itemsIn, itemsAllowed, runAllowed, itemsOf, listed, allZero, allAllowed, noTypeTwice}
+use Rattle.packet.specs.Reading.{messageOf, messageWith}
 use Rattle.packet.specs.Writing.{fieldOf, itemBytes}
 use Rattle.packet.specs.declared.message.Direction.{Direction}
 use Rattle.packet.specs.declared.message.Direction.the-variants.{Tx, Rx}
 use Rattle.packet.specs.declared.message.Message.{Message}
 use Rattle.demands.specs.Inversion.{laid, csrcWords, Inversion}
 use Rattle.demands.specs.Plain.{itemsHere}
-use Rattle.demands.proofs.Exact.{accepts, exact-judged}
-use Rattle.demands.proofs.Passed.{Passed, passed}
+use Rattle.demands.proofs.Passed.{Passed, accepted-passed}
 use Rattle.demands.proofs.Items.{zeros-are, items-back}
 
 -- ---- numbers from their bits
@@ -134,7 +132,7 @@ module _ (d : Direction) (ext : ℕ) (p : List ℕ) (small : Bytes p) (h : Passe
   f-small : field p < 65536
   f-small = number16-small p small (wordsAt p)
 
-  after-bytes : Bytes (afterField p)
+  pub after-bytes : Bytes (afterField p)
   unfolding afterField
   after-bytes = take-bytes (payloadAt p - (wordsAt p + 2)) (drop (wordsAt p + 2) p) (drop-bytes (wordsAt p + 2) p small)
 
@@ -188,7 +186,7 @@ module _ (d : Direction) (ext : ℕ) (p : List ℕ) (small : Bytes p) (h : Passe
   first-back : byteAt p 0 ≡ placed 8 0 2 2 + placed 8 3 1 1 + placed 8 4 4 (length (csrcWords p) / 4)
   first-back = first-byte (byteAt p 0) (small 0) (h .version-two) (h .no-padding) (h .extended) ∙ ap (λ (n : ℕ). 144 + n * 1) (sym csrc-count)
 
-  laid-out : p ≡ laid (csrcWords p) (payloadType p) ext (wordCount p) (messageOf p) (itemsHere p) (payload p)
+  pub laid-out : p ≡ laid (csrcWords p) (payloadType p) ext (wordCount p) (messageOf p) (itemsHere p) (payload p)
   unfolding laid messageOf messageWith
   laid-out =
       let e = extensionAt p in
@@ -206,13 +204,8 @@ module _ (d : Direction) (ext : ℕ) (p : List ℕ) (small : Bytes p) (h : Passe
       (bytes32 (timestamp p)) (bytes32 (ssrc p)) (csrcWords p) (bytes16 ext) (bytes16 (wordCount p)) (bytes16 (fieldOf (messageOf p) (itemsHere p)))
       (itemBytes (itemsHere p)) (replicate (4 * wordCount p - (2 + 2 * length (itemsHere p))) 0) (payload p)
 
-same-message : (a b : Message) → accepted a ≡ accepted b → a ≡ b
-same-message a b e = cc
-
 pub inversion : Inversion
-unfolding read
 inversion d ext p m small e =
-    let none = exact-judged (messageOf p) (readerRefusals d ext p) .meets-none m e in
-    let same : messageOf p ≡ m = same-message (messageOf p) m (sym (accepts (messageOf p) (readerRefusals d ext p) none) ∙ e) in
-    laid-out d ext p small (passed d ext p none)
-    ∙ ap (λ (n : Message). laid (csrcWords p) (payloadType p) ext (wordCount p) n (itemsHere p) (payload p)) same
+    let known = accepted-passed d ext p m e in
+    laid-out d ext p small (known .0)
+    ∙ ap (λ (n : Message). laid (csrcWords p) (payloadType p) ext (wordCount p) n (itemsHere p) (payload p)) (known .1)

@@ -6,8 +6,11 @@ pub mod Chain
 pub mod Numbers
 pub mod ItemsBack
 pub mod RisingItems
+pub mod AllowedItems
 pub mod Parts
 pub mod ReadBack
 pub mod Written
 pub mod RoundTrip
+pub mod Accepted
+pub mod Rewrite
 pub mod Examples

@@ -1,7 +1,7 @@
 -- What an accepted packet passed: the twelve tests of the reader, each by its name.
-use Prim.Native.Nat.{ℕ, _+_, _*_, _/_, _%_, _≤_, _<_}
-use mathlib.Core.Path.{_≡_, refl}
-use mathlib.Core.Bool.{Bool, true, false, not, _||_}
+use Prim.Native.Nat.{ℕ, _/_, _%_, _≤_}
+use mathlib.Core.Path.{_≡_, sym, _∙_}
+use mathlib.Core.Bool.{true, false, _||_}
 use mathlib.Core.List.{List}
 use native.Mathlib.Omega.{arith}
 use lib.Dec.{ltb, eqb}
@@ -9,11 +9,13 @@ use lib.ListN.{length}
 use borrow.Author.Tests.{ltb-false, eqb-true, eqb-false, not-false}
 use Rattle.base.specs.Bytes.{byteAt, isSet}
 use Rattle.base.proofs.Truths.{or-left, or-right}
-use Rattle.packet.specs.Packet.{version, padding, extension, marker, extensionType, wordCount, wordsAt, payloadAt, payloadType, payload, field, x, fieldAllowed, payloadAllowed, afterField}
+use Rattle.packet.specs.Packet.{version, padding, extension, marker, extensionType, wordCount, wordsAt, payloadAt, payloadType, audio, r2s, payload, field, x, fieldAllowed, payloadAllowed, afterField}
 use Rattle.packet.specs.Items.{itemsAllowed}
-use Rattle.packet.specs.Refusals.{NoCase}
-use Rattle.packet.specs.Reading.{readerRefusals}
+use Rattle.packet.specs.Refusals.{NoCase, accepted}
+use Rattle.packet.specs.Reading.{readerRefusals, messageOf, read}
 use Rattle.packet.specs.declared.message.Direction.{Direction}
+use Rattle.packet.specs.declared.message.Message.{Message}
+use Rattle.demands.proofs.Exact.{accepts, exact-judged}
 
 pub record Passed (d : Direction) (ext : ℕ) (p : List ℕ) : Type 0 where
   pub head : 12 ≤ length p
@@ -21,6 +23,7 @@ pub record Passed (d : Direction) (ext : ℕ) (p : List ℕ) : Type 0 where
   pub no-padding : padding p ≡ 0
   pub no-marker : marker p ≡ 0
   pub extended : extension p ≡ 1
+  pub known-kind : (eqb (payloadType p) audio || eqb (payloadType p) r2s) ≡ true
   pub words-begin : wordsAt p ≤ length p
   pub type-is : extensionType p ≡ ext
   pub some-word : 1 ≤ wordCount p
@@ -36,7 +39,7 @@ bit-zero n e = omega (arith, eqb-false (n % 2) 1 e)
 not-zero : (n : ℕ) → eqb n 0 ≡ false → 1 ≤ n
 not-zero n e = omega (arith, eqb-false n 0 e)
 
-pub passed : (d : Direction) (ext : ℕ) (p : List ℕ) → NoCase (readerRefusals d ext p) → Passed d ext p
+passed : (d : Direction) (ext : ℕ) (p : List ℕ) → NoCase (readerRefusals d ext p) → Passed d ext p
 unfolding readerRefusals
 passed d ext p h =
     record {
@@ -45,6 +48,7 @@ passed d ext p h =
       no-padding = bit-zero (byteAt p 0 / 32) (or-left (isSet (padding p)) (isSet (marker p)) (h .1 .1 .0));
       no-marker = bit-zero (byteAt p 1 / 128) (or-right (isSet (padding p)) (isSet (marker p)) (h .1 .1 .0));
       extended = eqb-true (extension p) 1 (not-false _ (h .1 .1 .1 .0));
+      known-kind = not-false _ (h .1 .1 .1 .1 .0);
       words-begin = ltb-false (length p) (wordsAt p) (h .1 .1 .1 .1 .1 .0);
       type-is = eqb-true (extensionType p) ext (not-false _ (h .1 .1 .1 .1 .1 .1 .0));
       some-word = not-zero (wordCount p) (or-left (eqb (wordCount p) 0) (ltb 15 (wordCount p)) (h .1 .1 .1 .1 .1 .1 .1 .0));
@@ -54,3 +58,13 @@ passed d ext p h =
       items-allowed = not-false _ (h .1 .1 .1 .1 .1 .1 .1 .1 .1 .1 .0);
       payload-allowed = not-false _ (h .1 .1 .1 .1 .1 .1 .1 .1 .1 .1 .1 .0);
     }
+
+same-message : (a b : Message) → accepted a ≡ accepted b → a ≡ b
+same-message a b e = cc
+
+-- an accepted packet passed every test, and its message is what its bytes say
+pub accepted-passed : (d : Direction) (ext : ℕ) (p : List ℕ) (m : Message) → read d ext p ≡ accepted m → Passed d ext p × (messageOf p ≡ m)
+unfolding read
+accepted-passed d ext p m e =
+    let none = exact-judged (messageOf p) (readerRefusals d ext p) .meets-none m e in
+    (passed d ext p none, same-message (messageOf p) m (sym (accepts (messageOf p) (readerRefusals d ext p) none) ∙ e))

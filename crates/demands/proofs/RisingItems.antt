@@ -37,14 +37,14 @@ quality-least q m e = by-method (eqb m 0) (and-right (leb m 3) _ e)
     by-method true h = omega (arith, leb-true q 15 h)
     by-method false h = leb-true q 31 h
 
-sqi-value : (q m : ℕ) → sqiAllowed q m ≡ true
+pub sqi-value : (q m : ℕ) → sqiAllowed q m ≡ true
     → ((q * 8 + m * 1) / 8 % 32 ≡ q) × ((q * 8 + m * 1) / 1 % 8 ≡ m) × (q * 8 + m * 1 < 256)
 sqi-value q m e =
     let a = method-least q m e in
     let b = quality-least q m e in
     omega arith
 
-climax-value : (v : ℕ) → leb v 127 ≡ true → ((128 + v * 1) / 1 % 128 ≡ v) × ((128 + v * 1) / 128 % 2 ≡ 1) × (128 + v * 1 < 256)
+pub climax-value : (v : ℕ) → leb v 127 ≡ true → ((128 + v * 1) / 1 % 128 ≡ v) × ((128 + v * 1) / 128 % 2 ≡ 1) × (128 + v * 1 < 256)
 climax-value v e = let h = leb-true v 127 e in omega arith
 
 -- ---- the side, the delay before it, the quality before both

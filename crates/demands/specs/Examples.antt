@@ -4,8 +4,11 @@ use mathlib.Core.Path.{_≡_}
 use mathlib.Core.Bool.{Bool, true, false}
 use mathlib.Core.List.{List, [], _∷_}
 use lib.ListN.{length}
+use lib.IntN.{ℤ, pos, negℤ}
+use Rattle.base.specs.Order.{late, missing}
+use Rattle.packet.specs.Quality.{quality}
 use Rattle.packet.specs.Items.{rssi}
-use Rattle.packet.specs.Refusals.{accepted}
+use Rattle.packet.specs.Refusals.{_if_, Answer, accepted, refused, judged}
 use Rattle.packet.specs.Reading.{readTx, readRx}
 use Rattle.packet.specs.Writing.{fromTx, fromRx, encode}
 use Rattle.packet.specs.declared.message.SqiItem.{SqiItem}
@@ -17,10 +20,13 @@ use Rattle.packet.specs.declared.message.SideItem.the-variants as side
 use Rattle.packet.specs.declared.message.Tx.{Tx}
 use Rattle.packet.specs.declared.message.Rx.{Rx}
 
--- One kind of line for each kind of example: "fields", the words of a packet and what they say.
+-- One kind of line for each kind of example. "fields": the words of a packet and what they say. "quality": a level and
+-- what it gives. "order": a sequence number, then another, and the answer with the packets missing.
 pub data Example : Type 0 where
   tx : (words : List ℕ) → Tx → Example
   rx : (words : List ℕ) → Rx → Example
+  level : (dBm : ℤ) (gives : ℕ) → Example
+  order : (last new : ℕ) → Answer ℕ → Example
 
 -- The words in 01's printed packet: R2S, extension type 0167, seq=1 ts=0 ssrc=7.
 abbrev pub around : (words : List ℕ) → List ℕ
@@ -43,10 +49,17 @@ abbrev pub rxSays : (ptt id : ℕ) (squ pm ptts sct : Bool) → SqiItem → Side
 rxSays ptt id squ pm ptts sct q s =
     record { sequence = 1; timestamp = 0; ssrc = 7; ptt = ptt; squ = squ; id = id; pm = pm; ptts = ptts; sct = sct; sqi = q; side = s }
 
--- The words read as the message, and the message is written with these words.
+-- a level below zero
+abbrev pub minus : ℕ → ℤ
+minus dBm = negℤ (pos dBm)
+
+-- The words read as the message, and the message is written with these words. The level gives that quality. After a
+-- packet with the first number, one with the second is answered so: 20, or how many are missing.
 abbrev pub Holds : Example → Type 0
 Holds (tx words m) = (readTx 0x0167 (around words) ≡ accepted m) × (encode 0x0167 (fromTx m) [] ≡ around words)
 Holds (rx words m) = (readRx 0x0167 (around words) ≡ accepted m) × (encode 0x0167 (fromRx m) [] ≡ around words)
+Holds (level dBm gives) = quality dBm ≡ gives
+Holds (order last new answer) = judged (20 if late true last new ∷ []) (missing true last new) ≡ answer
 
 abbrev pub table : List Example
 table =
@@ -57,7 +70,17 @@ table =
     -- "Normal, id 2, delay 12 ms, main: 20 81 21 86 51 00 00 00"
     ∷ tx (0x20 ∷ 0x81 ∷ 0x21 ∷ 0x86 ∷ 0x51 ∷ 0x00 ∷ 0x00 ∷ 0x00 ∷ []) (txSays normal 2 false false (climax.Is (12 / 2)) side.Main)
     -- "RX off, SQU, SCT, −85 dBm: 10 09 11 38"
-    ∷ rx (0x10 ∷ 0x09 ∷ 0x11 ∷ 0x38 ∷ []) (rxSays off 0 true false false true (sqi.Is 7 rssi) side.Absent)
+    ∷ rx (0x10 ∷ 0x09 ∷ 0x11 ∷ 0x38 ∷ []) (rxSays off 0 true false false true (sqi.Is (quality (minus 85)) rssi) side.Absent)
+    -- "−101 gives 0, −99 gives 0, −98 gives 1, −71 gives 14, −70 gives 15."
+    ∷ level (minus 101) 0
+    ∷ level (minus 99) 0
+    ∷ level (minus 98) 1
+    ∷ level (minus 71) 14
+    ∷ level (minus 70) 15
+    -- "65535 then 0: none missing. 10 then 32777: 32766 missing. 10 then 32778: refused 20."
+    ∷ order 65535 0 (accepted 0)
+    ∷ order 10 32777 (accepted 32766)
+    ∷ order 10 32778 (refused 20 0)
     ∷ []
 
 -- The theorem: every line holds.

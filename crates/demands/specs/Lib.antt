@@ -3,4 +3,5 @@ pub mod Exact
 pub mod Plain
 pub mod Inversion
 pub mod RoundTrip
+pub mod Rewrite
 pub mod Examples

@@ -1,4 +1,4 @@
--- 01, Report to a seat: quality is 0 to 15; and the printed cases.
+-- 01, Report to a seat: quality is 0 to 15. The printed cases are in demands, Examples.
 use Prim.Native.Nat.{suc, _≤_}
 use mathlib.Core.Path.{_≡_, refl}
 use mathlib.Core.Bool.{Bool, true, false, cond}
@@ -19,12 +19,6 @@ quality-most (negsuc n) = by-tests (ltb 99 n) (ltb n 69) refl
     by-tests true high e = lit≤ tt
     by-tests false true e = lit≤ tt
     by-tests false false e = by-difference (λ (z : ℤ). size (floorDiv z 2) ≤ 15) 100 (suc n) (λ l. omega arith) (λ l. omega (arith, ltb-false n 69 e))
-
--- "-101 gives 0, -99 gives 0, -98 gives 1, -71 gives 14, -70 gives 15."
-pub printed : (quality (negℤ (pos 101)) ≡ 0) × (quality (negℤ (pos 99)) ≡ 0) × (quality (negℤ (pos 98)) ≡ 1)
-    × (quality (negℤ (pos 71)) ≡ 14) × (quality (negℤ (pos 70)) ≡ 15)
-unfolding quality
-printed = (refl, refl, refl, refl, refl)
 
 -- each end belongs to the middle, and the whole width is covered
 pub ends : (quality (negℤ (pos 100)) ≡ 0) × (quality (negℤ (pos 69)) ≡ 15) × (quality (negℤ (pos 32768)) ≡ 0) × (quality (pos 32767) ≡ 15)

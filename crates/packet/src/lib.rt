@@ -4,12 +4,12 @@
 // (the bytes that a writer puts). Apart from these, level.rt is the quality of a level, said in specs/Quality.antt.
 mod frame;
 mod items;
-mod plain;
 pub mod level;
 pub mod message;
+mod plain;
 pub mod reader;
-pub mod writer;
 pub mod refusal;
+pub mod writer;
 
 pub use level::quality;
 pub use message::ClimaxItem;

@@ -1,0 +1,38 @@
+-- Demand 2: "An accepted packet in 01's plain form is rewritten to the same bytes", and no other accepted packet is.
+use Prim.Native.Nat.{ℕ, _≤_}
+use mathlib.Core.Path.{_≡_}
+use mathlib.Core.Bool.{true}
+use mathlib.Core.List.{List, _++_}
+use mathlib.Core.Logic.{_↔_}
+use lib.ListN.{length, drop}
+use Rattle.base.specs.Bytes.{Bytes}
+use Rattle.packet.specs.Packet.{payload}
+use Rattle.packet.specs.Refusals.{accepted}
+use Rattle.packet.specs.Reading.{read, readTx, readRx}
+use Rattle.packet.specs.Writing.{fromTx, fromRx, encode, writable, write, buffered}
+use Rattle.packet.specs.declared.message.Direction.{Direction}
+use Rattle.packet.specs.declared.message.Message.{Message}
+use Rattle.packet.specs.declared.message.Tx.{Tx}
+use Rattle.packet.specs.declared.message.Rx.{Rx}
+use Rattle.demands.specs.Plain.{Plain}
+
+-- A packet, its message, and what the writer makes of that message with the packet's own payload.
+pub record Rewritten (ext : ℕ) (p : List ℕ) (m : Message) : Type 0 where
+  -- it is no value that the writer refuses
+  pub writes : writable m (length (payload p)) ≡ true
+  -- the bytes are those of the packet exactly if the packet is plain
+  pub same : (encode ext m (payload p) ≡ p) ↔ Plain p
+  -- so a plain packet stands again in every buffer with room for it
+  pub stands : Plain p → (buffer : List ℕ) → length p ≤ length buffer
+      → (write ext m (payload p) (length buffer) ≡ accepted (length p)) × (buffered ext m (payload p) buffer ≡ p ++ drop (length p) buffer)
+
+-- For every direction, extension type and list of bytes.
+abbrev pub Rewrite : Type 0
+Rewrite = (d : Direction) (ext : ℕ) (p : List ℕ) (m : Message) → Bytes p → read d ext p ≡ accepted m → Rewritten ext p m
+
+-- The same of the public readers, whose messages hold only what their direction can say.
+abbrev pub RewriteTx : Type 0
+RewriteTx = (ext : ℕ) (p : List ℕ) (m : Tx) → Bytes p → readTx ext p ≡ accepted m → Rewritten ext p (fromTx m)
+
+abbrev pub RewriteRx : Type 0
+RewriteRx = (ext : ℕ) (p : List ℕ) (m : Rx) → Bytes p → readRx ext p ≡ accepted m → Rewritten ext p (fromRx m)
