@@ -1,10 +1,11 @@
 #!/usr/bin/env python3
-"""Holds packets of the model to what tshark (Wireshark) reads in them. Not part of the gate.
+"""Holds packets to what tshark (Wireshark) reads in them. Not part of the gate.
 
-  tests/tshark.py            needs tshark on the PATH; exits 1 at a difference
+  tests/tshark.py              packets of the model
+  tests/tshark.py --written    the packets that the program write_each prints for the records of tests/written.py
 
-Each packet goes into a capture as one UDP datagram; tshark is told that the port carries RTP and knows extension
-type hex 0167 as the ED-137 radio header. docs/tshark.md says what was seen.
+Needs tshark on the PATH; exits 1 at a difference. Each packet goes into a capture as one UDP datagram; tshark is told
+that the port carries RTP and knows extension type hex 0167 as the ED-137 radio header. docs/tshark.md says what was seen.
 """
 
 import pathlib
@@ -12,10 +13,13 @@ import struct
 import subprocess
 import sys
 import tempfile
+from dataclasses import replace
 
 import model
+import written
 from model import COUPLING, EMERGENCY, NORMAL, OFF, PRIORITY, TEST, Field
 
+PROGRAM = [str(written.ROOT / "ostalenc"), "write_each"]
 EXT = 0x0167
 PORT = 5004
 HEADER = "rtp.ext.ed137a"
@@ -89,22 +93,49 @@ def packets():
     yield model.RX, bytes.fromhex(head + "10A9" + "5180" + "1138" + "00" * 10)
 
 
-def by_the_model(direction, packet):
+def values(message, cc, word_count, types):
     """The values of COMPARED, in its order; what is absent is an empty text."""
-    message = model.read(direction, EXT, packet)
     f = message.field
-    cc = packet[0] % 16
-    words = packet[16 + 4 * cc : len(packet) - len(message.audio)]
-    x = words[1] % 2
-    pairs = model.items(direction, x, words[2:])
-    rtp = [2, 0, 1, cc, 0, message.kind, message.sequence, message.timestamp, message.ssrc, EXT, len(words) // 4]
-    field = [f.ptt, f.squ, f.id, f.pm, f.ptts, f.sct, 0, x]
-    types = " ".join(str(item_type) for item_type, _ in pairs)
-    lengths = " ".join("1" for _ in pairs)
+    rtp = [2, 0, 1, cc, 0, message.kind, message.sequence, message.timestamp, message.ssrc, EXT, word_count]
+    field = [f.ptt, f.squ, f.id, f.pm, f.ptts, f.sct, 0, 1 if types else 0]
+    listed = " ".join(str(item_type) for item_type in types)
+    lengths = " ".join("1" for _ in types)
     sqi = f.sqi or ("", "")
     climax = ("", "") if f.climax is None else (1, f.climax)
     side = "" if f.side is None else f"{128 * f.side:02x}"
-    return [str(v) for v in (*rtp, *field, types, lengths, *sqi, *climax, side, message.audio.hex())]
+    return [str(v) for v in (*rtp, *field, listed, lengths, *sqi, *climax, side, message.audio.hex())]
+
+
+def by_the_model(direction, packet):
+    message = model.read(direction, EXT, packet)
+    cc = packet[0] % 16
+    words = packet[16 + 4 * cc : len(packet) - len(message.audio)]
+    types = [item_type for item_type, _ in model.items(direction, words[1] % 2, words[2:])]
+    return values(message, cc, len(words) // 4, types)
+
+
+def by_the_record(write):
+    """What the record asked for, in the plain form; the packet is not looked at."""
+    f = write.message.field
+    items = ((model.SQI_TYPE, f.sqi), (model.CLIMAX_TYPE, f.climax), (model.SIDE_TYPE, f.side))
+    types = [item_type for item_type, item in items if item is not None]
+    message = replace(write.message, audio=written.sound(write.audio))
+    return values(message, 0, 2 if len(types) > 1 else 1, types)
+
+
+def made_by_the_model():
+    """(direction, packet, values)"""
+    return [(direction, packet, by_the_model(direction, packet)) for direction, packet in packets()]
+
+
+def made_by_our_writer():
+    """(direction, packet, values) of every packet written; with another extension type tshark decodes no words."""
+    records = b"".join(write.record() for write in written.writes)
+    lines = subprocess.run(PROGRAM, input=records, capture_output=True, check=True).stdout.decode().splitlines()
+    for write, line in zip(written.writes, lines, strict=True):
+        answer, length, *_, buffer = line.split()
+        if answer == "ok" and write.ext == EXT:
+            yield write.direction, bytes.fromhex(buffer)[: int(length)], by_the_record(write)
 
 
 def capture(datagrams):
@@ -136,16 +167,16 @@ def same(name, ours, theirs):
 
 
 def main():
-    all_packets = list(packets())
-    rows = seen_by_tshark([packet for _, packet in all_packets])
-    assert len(rows) == len(all_packets), "tshark left a packet out"
+    cases = list(made_by_our_writer() if sys.argv[1:] == ["--written"] else made_by_the_model())
+    rows = seen_by_tshark([packet for _, packet, _ in cases])
+    assert len(rows) == len(cases), "tshark left a packet out"
     differences = 0
-    for (direction, packet), row in zip(all_packets, rows):
-        for (name, _), ours, theirs in zip(COMPARED, by_the_model(direction, packet), row, strict=True):
+    for (direction, packet, expected), row in zip(cases, rows):
+        for (name, _), ours, theirs in zip(COMPARED, expected, row, strict=True):
             if not same(name, ours, theirs):
                 differences += 1
-                print(f"{direction} {packet.hex()}: {name}: model {ours or 'nothing'}, tshark {theirs or 'nothing'}")
-    print(f"{len(all_packets)} packets, {len(COMPARED)} fields in each, {differences} differences")
+                print(f"{direction} {packet.hex()}: {name}: expected {ours or 'nothing'}, tshark {theirs or 'nothing'}")
+    print(f"{len(cases)} packets, {len(COMPARED)} fields in each, {differences} differences")
     return 1 if differences else 0
 
 
