@@ -1,0 +1,109 @@
+-- Who is on the air: for each way out of the code, that its answer is the definition's.
+use Prim.Native.Nat.{ℕ, _-_, _<_, _≤_}
+use mathlib.Core.Path.{_≡_, ap, _∙_}
+use mathlib.Core.Bool.{Bool, true, false, and-true, and-false}
+use mathlib.Core.List.{List, []}
+use borrow.Author.Needs.{needs}
+use borrow.Author.Tests.{lt-ltb, le-ltb, le-leb, lt-leb, ne-eqb}
+use lib.Dec.{ltb}
+use lib.ListN.{set, replicate}
+use Rattle.seats.specs.Record.{seatOf}
+use Rattle.air.specs.Air.{rank, keyed, takesPart, among}
+use Rattle.air.specs.Marks.{standing, seatsAt, firstAt, mark, markAll, markIf, marksOf, leadersAt, addedAt, marked, sends, sendsFrom, pttsShown}
+use Rattle.air.proofs.RankLaws.{codes}
+use Rattle.air.proofs.Turns.{turns}
+use Rattle.air.proofs.Marking.{mark-list, mark-first}
+use Rattle.air.proofs.AirFound.{air-found}
+use Rattle.seats.specs.declared.record.Field.{Field}
+use Rattle.seats.specs.declared.record.Seat.{Seat}
+
+module _ (f : Field) where
+  pub keyed-muted : f .pm ≡ true → false ≡ keyed f
+  keyed-muted e = simp (e, and-false)
+
+  pub keyed-on : (r : ℕ) → r ≡ rank (f .ptt) → f .pm ≡ false → ltb 0 r ≡ keyed f
+  keyed-on r e p = simp (e, p, and-true)
+
+module _ (healthy : Bool) (s : Seat) where
+  pub part-asked : (r : Bool) → healthy ≡ true → s .opened ≡ true → r ≡ keyed (s .heard .field) → r ≡ takesPart healthy s
+  unfolding takesPart
+  part-asked r h o e = simp (h, o, e)
+
+  pub part-closed : healthy ≡ true → s .opened ≡ false → false ≡ takesPart healthy s
+  unfolding takesPart
+  part-closed h o = simp (h, o)
+
+  pub part-unhealthy : healthy ≡ false → false ≡ takesPart healthy s
+  unfolding takesPart
+  part-unhealthy h = simp h
+
+module _ (healthy : Bool) (seats : List Seat) (n : ℕ) (s : Seat) (its : s ≡ seatOf seats n) (part : Bool) (says : part ≡ takesPart healthy s) where
+  pub standing-ranked : (r : ℕ) → part ≡ true → r ≡ rank (s .heard .field .ptt) → r ≡ standing healthy seats n
+  unfolding standing
+  standing-ranked r t e = rw (← its, ← says, t) e
+
+  pub standing-none : part ≡ false → 0 ≡ standing healthy seats n
+  unfolding standing
+  standing-none t = rw (← its, ← says, t)
+
+module _ (marks : List Bool) (n : ℕ) where
+  pub mark-zero : n ≡ 0 → marks ≡ mark marks n
+  unfolding mark
+  mark-zero e = simp e
+
+  pub mark-past : (n ≡ 0 → ⊥) → 8 < n → marks ≡ mark marks n
+  unfolding mark
+  mark-past z h = simp (ne-eqb _ _ z, lt-ltb _ _ h)
+
+  pub mark-seat : (n ≡ 0 → ⊥) → n ≤ 8 → set marks (n - 1) true ≡ mark marks n
+  unfolding mark
+  mark-seat z h = simp (ne-eqb _ _ z, le-ltb _ _ h)
+
+  pub mark-if-so : (t : Bool) (r : List Bool) → t ≡ true → r ≡ mark marks n → r ≡ markIf t marks n
+  mark-if-so t r h e = simp (h, e)
+
+module _ (m : Bool) (s : Seat) where
+  pub sends-on : m ≡ true → s .heard .field .ptts ≡ sends m s
+  sends-on e = simp e
+
+  pub sends-off : m ≡ false → false ≡ sends m s
+  sends-off e = simp e
+
+module _ (seats : List Seat) (on : List Bool) (k : ℕ) (counted : k ≡ marked on) where
+  pub ptts-several : 2 ≤ k → true ≡ pttsShown seats on
+  unfolding pttsShown
+  ptts-several h = rw (← counted, le-leb _ _ h)
+
+  pub ptts-sent : (r : Bool) → k < 2 → r ≡ sendsFrom 0 seats on → r ≡ pttsShown seats on
+  unfolding pttsShown
+  ptts-sent r h e = rw (← counted, lt-leb _ _ h) e
+
+module _ (summation : Bool) (top : ℕ) (order ranks : List ℕ) where
+  pub leads-nobody : top ≡ 0 → replicate 8 false ≡ marksOf (leadersAt summation top order ranks)
+  unfolding leadersAt among
+  leads-nobody e = simp e
+
+  pub leads-all : (r : List Bool) → (top ≡ 0 → ⊥) → summation ≡ true → r ≡ markAll (replicate 8 false) (seatsAt top order ranks)
+      → r ≡ marksOf (leadersAt summation top order ranks)
+  unfolding leadersAt among
+  leads-all r z s e = simp (ne-eqb _ _ z, s) (e ∙ mark-list [] (seatsAt top order ranks))
+
+  pub leads-first : (first : ℕ) (r : List Bool) → (top ≡ 0 → ⊥) → summation ≡ false → first ≡ firstAt top order ranks → r ≡ mark (replicate 8 false) first
+      → r ≡ marksOf (leadersAt summation top order ranks)
+  unfolding leadersAt among
+  leads-first first r z s f e = simp (ne-eqb _ _ z, s) (e ∙ ap (mark (replicate 8 false)) f ∙ mark-first top order ranks)
+
+module _ (leads : List Bool) (coupling : Bool) (top : ℕ) (order ranks : List ℕ) where
+  pub added-coupled : (r : List Bool) → coupling ≡ true → 2 < top → r ≡ markAll leads (seatsAt 2 order ranks) → r ≡ markAll leads (addedAt coupling top order ranks)
+  unfolding addedAt
+  added-coupled r c h e = simp (c, lt-ltb _ _ h) e
+
+  pub added-under : coupling ≡ true → top ≤ 2 → leads ≡ markAll leads (addedAt coupling top order ranks)
+  unfolding addedAt markAll
+  added-under c h = simp (c, le-ltb _ _ h)
+
+  pub added-none : coupling ≡ false → leads ≡ markAll leads (addedAt coupling top order ranks)
+  unfolding addedAt markAll
+  added-none c = simp c
+
+pub ruleset rules = (codes, keyed-muted, keyed-on, part-asked, part-closed, part-unhealthy, standing-ranked, standing-none, mark-zero, mark-past, mark-seat, mark-if-so, sends-on, sends-off, ptts-several, ptts-sent, leads-nobody, leads-all, leads-first, added-coupled, added-under, added-none, air-found, turns, needs)

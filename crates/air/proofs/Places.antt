@@ -1,0 +1,58 @@
+-- The rank at each place of the order says what the list of keyings says.
+use Prim.Native.Nat.{ℕ, max}
+use mathlib.Core.Path.{_≡_, refl, ap}
+use mathlib.Core.Bool.{Bool, true, false, cond, not, _&&_}
+use mathlib.Core.List.{List, [], _∷_, map}
+use native.Mathlib.Omega.{arith}
+use borrow.Author.Tests.{ne-eqb, ltb-true}
+use lib.Dec.{eqb, ltb}
+use Rattle.seats.specs.Record.{seatOf}
+use Rattle.air.specs.Air.{rank, takesPart, keyingsOf, keyingOf, topRank, atRank}
+use Rattle.air.specs.Marks.{standing, highest, seatsAt}
+use Rattle.seats.specs.declared.record.Seat.{Seat}
+
+module _ (healthy : Bool) (seats : List Seat) where
+  pub highest-is-top : (order : List ℕ) → highest (map (standing healthy seats) order) ≡ topRank (keyingsOf healthy seats order)
+  unfolding highest standing keyingsOf topRank
+  highest-is-top [] = refl
+  highest-is-top (n ∷ order) = by-part (takesPart healthy (seatOf seats n)) (highest-is-top order)
+    where
+      r : ℕ
+      r = rank (seatOf seats n .heard .field .ptt)
+
+      by-part : (t : Bool) → highest (map (standing healthy seats) order) ≡ topRank (keyingsOf healthy seats order)
+          → max (cond t r 0) (highest (map (standing healthy seats) order))
+          ≡ topRank (cond t (keyingOf seats n ∷ keyingsOf healthy seats order) (keyingsOf healthy seats order))
+      by-part true h = ap (max r) h
+      by-part false h = omega (arith, h)
+
+  pub seats-at-rank : (r : ℕ) (order : List ℕ) → (r ≡ 0 → ⊥) → seatsAt r order (map (standing healthy seats) order) ≡ atRank r (keyingsOf healthy seats order)
+  unfolding seatsAt standing keyingsOf atRank
+  seats-at-rank r [] some = refl
+  seats-at-rank r (n ∷ order) some = by-part (takesPart healthy (seatOf seats n)) (seats-at-rank r order some)
+    where
+      k : ℕ
+      k = rank (seatOf seats n .heard .field .ptt)
+
+      by-part : (t : Bool) → seatsAt r order (map (standing healthy seats) order) ≡ atRank r (keyingsOf healthy seats order)
+          → cond (eqb (cond t k 0) r) (n ∷ seatsAt r order (map (standing healthy seats) order)) (seatsAt r order (map (standing healthy seats) order))
+          ≡ atRank r (cond t (keyingOf seats n ∷ keyingsOf healthy seats order) (keyingsOf healthy seats order))
+      by-part true h = rw h
+      by-part false h = rw (ne-eqb 0 r (λ e. some (cc))) h
+
+  -- who takes part has a rank
+  pub nobody-at-zero : (order : List ℕ) → atRank 0 (keyingsOf healthy seats order) ≡ []
+  unfolding keyingsOf atRank takesPart
+  nobody-at-zero [] = refl
+  nobody-at-zero (n ∷ order) = by-part healthy (seatOf seats n .opened) (ltb 0 k) (not (seatOf seats n .heard .field .pm)) refl (nobody-at-zero order)
+    where
+      k : ℕ
+      k = rank (seatOf seats n .heard .field .ptt)
+
+      by-part : (a b ranked d : Bool) → ltb 0 k ≡ ranked → atRank 0 (keyingsOf healthy seats order) ≡ []
+          → atRank 0 (cond (a && b && (ranked && d)) (keyingOf seats n ∷ keyingsOf healthy seats order) (keyingsOf healthy seats order)) ≡ []
+      by-part false b ranked d e h = h
+      by-part true false ranked d e h = h
+      by-part true true false d e h = h
+      by-part true true true false e h = h
+      by-part true true true true e h = rw (ne-eqb k 0 (λ z. omega (arith, ltb-true 0 k e))) h

@@ -1,0 +1,5 @@
+-- Who is on the air, and the order in which keyings began. (Marks and Carrying: what the private functions do.)
+pub mod Air
+pub mod Order
+pub mod Marks
+pub mod Carrying

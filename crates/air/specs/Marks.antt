@@ -1,0 +1,69 @@
+-- Who is on the air as the code finds it: the rank at each place of the order, and a set of seats as eight marks.
+-- proofs/AirFound.antt shows that it is what Air says.
+use Prim.Native.Nat.{ℕ, suc, _+_, _-_, max}
+use mathlib.Core.Bool.{Bool, true, false, cond, _&&_, _||_}
+use mathlib.Core.List.{List, [], _∷_, map, foldl}
+use lib.Dec.{eqb, ltb, leb}
+use lib.ListN.{getD, set}
+use Rattle.seats.specs.Record.{seatNumbers, noSuchSeat, closedSeat, seatOf}
+use Rattle.air.specs.Air.{rank, couplingRank, takesPart, theFirst, among}
+use Rattle.seats.specs.declared.record.Seat.{Seat}
+
+-- The rank at which the seat of a number takes part, 0 if it takes none.
+unfoldable pub standing : (healthy : Bool) → List Seat → (n : ℕ) → ℕ
+standing healthy seats n = cond (takesPart healthy (seatOf seats n)) (rank (seatOf seats n .heard .field .ptt)) 0
+
+unfoldable pub highest : (ranks : List ℕ) → ℕ
+highest [] = 0
+highest (r ∷ ranks) = max r (highest ranks)
+
+-- The seats of the order whose place has a rank, and the first of them, 0 if there is none.
+unfoldable pub seatsAt : ℕ → (order ranks : List ℕ) → List ℕ
+seatsAt r [] ranks = []
+seatsAt r (n ∷ order) [] = []
+seatsAt r (n ∷ order) (k ∷ ranks) = cond (eqb k r) (n ∷ seatsAt r order ranks) (seatsAt r order ranks)
+
+unfoldable pub firstAt : ℕ → (order ranks : List ℕ) → ℕ
+firstAt r [] ranks = 0
+firstAt r (n ∷ order) [] = 0
+firstAt r (n ∷ order) (k ∷ ranks) = cond (eqb k r) n (firstAt r order ranks)
+
+-- A set of seats as marks, seat n at place n - 1; what is no seat's number leaves no mark.
+abbrev pub marksOf : List ℕ → List Bool
+marksOf ns = map (among ns) seatNumbers
+
+unfoldable pub mark : List Bool → ℕ → List Bool
+mark marks n = cond (noSuchSeat n) marks (set marks (n - 1) true)
+
+unfoldable pub markAll : List Bool → List ℕ → List Bool
+markAll marks ns = foldl mark marks ns
+
+abbrev pub markIf : Bool → List Bool → ℕ → List Bool
+markIf t marks n = cond t (mark marks n) marks
+
+unfoldable pub leadersAt : (summation : Bool) → (top : ℕ) → (order ranks : List ℕ) → List ℕ
+leadersAt summation top order ranks =
+    cond (eqb top 0) [] (cond summation (seatsAt top order ranks) (theFirst (seatsAt top order ranks)))
+
+unfoldable pub addedAt : (coupling : Bool) → (top : ℕ) → (order ranks : List ℕ) → List ℕ
+addedAt coupling top order ranks = cond (coupling && ltb couplingRank top) (seatsAt couplingRank order ranks) []
+
+-- The smallest number that is marked, the first mark being n's.
+unfoldable pub smallestFrom : (n : ℕ) → List Bool → ℕ
+smallestFrom n [] = 0
+smallestFrom n (m ∷ marks) = cond m n (smallestFrom (n + 1) marks)
+
+unfoldable pub marked : List Bool → ℕ
+marked [] = 0
+marked (m ∷ marks) = cond m (suc (marked marks)) (marked marks)
+
+abbrev pub sends : Bool → Seat → Bool
+sends m s = m && s .heard .field .ptts
+
+-- A marked seat last sent PTTS, the first mark being that of place i.
+unfoldable pub sendsFrom : (i : ℕ) → List Seat → List Bool → Bool
+sendsFrom i seats [] = false
+sendsFrom i seats (m ∷ marks) = sends m (getD seats i closedSeat) || sendsFrom (i + 1) seats marks
+
+unfoldable pub pttsShown : List Seat → List Bool → Bool
+pttsShown seats on = leb 2 (marked on) || sendsFrom 0 seats on

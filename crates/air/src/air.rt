@@ -1,0 +1,223 @@
+// Who is on the air. specs/Air.antt has 01's sentences, specs/Marks.antt what the loops below find.
+ghost use mathlib.Core.Path.{_≡_};
+ghost use Prim.Native.Nat.{max};
+ghost use mathlib.Core.List.{map};
+ghost use Rattle.air.specs.Air.{rank, typeOf, keyed, takesPart, benchAir};
+ghost use Rattle.air.specs.Marks.{standing, highest, seatsAt, firstAt, markAll, marksOf, leadersAt, addedAt, sends, sendsFrom, pttsShown};
+use crate::marks::mark;
+use crate::marks::mark_if;
+use crate::marks::marked;
+use crate::marks::smallest;
+use seats::record::Bench;
+use seats::record::Field;
+use seats::record::Seat;
+use seats::record::seat_of;
+
+// What is shown of the air. Seat n has place n - 1.
+#[repr(C)]
+pub struct Air {
+    pub on: [bool; 8],
+    // on the air at the top rank
+    pub leads: [bool; 8],
+    // the smallest seat that leads, 0 if none does
+    pub id: u8,
+    // the top type, 0 for off
+    pub ptt: u8,
+    pub ptts: bool,
+}
+
+// the rank of Coupling
+const COUPLING: u8 = 2;
+
+// Test, Coupling, Normal, Priority, Emergency, lowest first; 0 for off and for the reserved codes.
+fn rank(ptt: u8) -> u8
+    ensures { λ r. ⌜ r ≡ rank ptt ⌝ }
+{
+    match ptt {
+        5 => 1,
+        2 => 2,
+        1 => 3,
+        3 => 4,
+        4 => 5,
+        0 | 6..=255 => 0,
+    }
+}
+
+// The PTT type of a rank; off for 0.
+fn type_of(rank: u8) -> u8
+    ensures { λ r. ⌜ r ≡ typeOf rank ⌝ }
+{
+    match rank {
+        1 => 5,
+        2 => 2,
+        3 => 1,
+        4 => 3,
+        5 => 4,
+        0 | 6..=255 => 0,
+    }
+}
+
+// PTT on and PM 0.
+pub fn keyed(f: Field) -> bool
+    ensures { λ r. ⌜ r ≡ keyed f ⌝ }
+{
+    let on = 0 < rank(f.ptt);
+    if f.pm { false } else { on }
+}
+
+fn takes_part(healthy: bool, s: Seat) -> bool
+    ensures { λ r. ⌜ r ≡ takesPart healthy s ⌝ }
+{
+    if healthy {
+        if s.opened {
+            let heard = s.heard;
+            let field = heard.field;
+            return keyed(field);
+        }
+    }
+    false
+}
+
+// The rank at which the seat of a number takes part, 0 if it takes none.
+fn standing(healthy: bool, seats: [Seat; 8], n: u8) -> u8
+    ensures { λ r. ⌜ r ≡ standing healthy seats n ⌝ }
+{
+    let s = seat_of(seats, n);
+    if takes_part(healthy, s) {
+        return rank(s.heard.field.ptt);
+    }
+    0
+}
+
+// The rank at each place of the order.
+fn ranks(healthy: bool, seats: [Seat; 8], order: [u8; 8]) -> [u8; 8]
+    ensures { λ r. ⌜ r ≡ map (standing healthy seats) order ⌝ }
+{
+    let mut ranks = [0u8; 8];
+    for i in 0..8 {
+        ranks[i] = standing(healthy, seats, order[i]);
+    }
+    ranks
+}
+
+fn larger(a: u8, b: u8) -> u8
+    ensures { λ r. ⌜ r ≡ max a b ⌝ }
+{
+    if a < b { b } else { a }
+}
+
+fn highest(ranks: [u8; 8]) -> u8
+    ensures { λ r. ⌜ r ≡ highest ranks ⌝ }
+{
+    let mut top: u8 = 0;
+    for i in 0..8 {
+        top = larger(top, ranks[i]);
+    }
+    top
+}
+
+// The seat at the rank whose keying began first, 0 if there is none.
+fn first_at(rank: u8, order: [u8; 8], ranks: [u8; 8]) -> u8
+    ensures { λ r. ⌜ r ≡ firstAt rank order ranks ⌝ }
+{
+    for i in 0..8 {
+        if ranks[i] == rank {
+            return order[i];
+        }
+    }
+    0
+}
+
+// The marks with every seat at the rank.
+fn mark_at(marks: [bool; 8], rank: u8, order: [u8; 8], ranks: [u8; 8]) -> [bool; 8]
+    ensures { λ r. ⌜ r ≡ markAll marks (seatsAt rank order ranks) ⌝ }
+{
+    let mut more = marks;
+    for i in 0..8 {
+        let next = mark_if(ranks[i] == rank, more, order[i]);
+        more = next;
+    }
+    more
+}
+
+// Who is on the air at the top rank: by summation all of it, by lockout the first.
+fn leading(summation: bool, top: u8, order: [u8; 8], ranks: [u8; 8]) -> [bool; 8]
+    ensures { λ r. ⌜ r ≡ marksOf (leadersAt summation top order ranks) ⌝ }
+{
+    let nobody = [false; 8];
+    if top == 0 {
+        return nobody;
+    }
+    if summation {
+        return mark_at(nobody, top, order, ranks);
+    }
+    let first = first_at(top, order, ranks);
+    mark(nobody, first)
+}
+
+// With coupling summation the participants keyed Coupling are added when the top rank is above Coupling.
+fn with_added(
+    leads: [bool; 8],
+    coupling: bool,
+    top: u8,
+    order: [u8; 8],
+    ranks: [u8; 8],
+) -> [bool; 8]
+    ensures { λ r. ⌜ r ≡ markAll leads (addedAt coupling top order ranks) ⌝ }
+{
+    if coupling {
+        if COUPLING < top {
+            return mark_at(leads, COUPLING, order, ranks);
+        }
+    }
+    leads
+}
+
+// A seat shows its PTTS only while it is on the air.
+fn sends(on: bool, s: Seat) -> bool
+    ensures { λ r. ⌜ r ≡ sends on s ⌝ }
+{
+    if on { s.heard.field.ptts } else { false }
+}
+
+fn any_sends(seats: [Seat; 8], on: [bool; 8]) -> bool
+    ensures { λ r. ⌜ r ≡ sendsFrom 0 seats on ⌝ }
+{
+    for i in 0..8 {
+        let s = seats[i];
+        if sends(on[i], s) {
+            return true;
+        }
+    }
+    false
+}
+
+// Two or more seats on the air, or one that sent PTTS.
+fn ptts_shown(seats: [Seat; 8], on: [bool; 8]) -> bool
+    ensures { λ r. ⌜ r ≡ pttsShown seats on ⌝ }
+{
+    if 2 <= marked(on) {
+        return true;
+    }
+    any_sends(seats, on)
+}
+
+// What is shown of the air of a bench.
+pub fn bench_air(b: Bench) -> Air
+    ensures { λ r. ⌜ r ≡ benchAir b ⌝ }
+{
+    let setup = b.setup;
+    let seats = b.seats;
+    let order = b.order;
+    let ranks = ranks(b.healthy, seats, order);
+    let top = highest(ranks);
+    let leads = leading(setup.summation, top, order, ranks);
+    let on = with_added(leads, setup.coupling, top, order, ranks);
+    Air {
+        on,
+        leads,
+        id: smallest(leads),
+        ptt: type_of(top),
+        ptts: ptts_shown(seats, on),
+    }
+}

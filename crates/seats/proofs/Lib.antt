@@ -1,0 +1,4 @@
+pub mod RecordLaws
+pub mod OpeningLaws
+pub mod TickingLaws
+pub mod RadioLaws

@@ -1,0 +1,139 @@
+-- The cases of opening and closing a seat, as the answers of the code ask for them.
+use Prim.Native.Nat.{ℕ, suc, _+_, _<_, _≤_}
+use mathlib.Core.Path.{_≡_, refl, sym, _∙_}
+use mathlib.Core.Bool.{Bool, true, false, not, _&&_, _||_}
+use mathlib.Core.List.{List}
+use native.Mathlib.Numerals.{add-one}
+use native.Mathlib.Omega.{arith}
+use lib.Dec.{eqb}
+use lib.ListN.{length, drop, getD, drop-of-length-le}
+use lib.Seq.{drop-cons}
+use Rattle.packet.specs.Refusals.{accepted, refused}
+use Rattle.packet.specs.declared.refusal.Refusal.{Refusal}
+use Rattle.seats.specs.Record.{noSuchSeat, seatOf, lesson, closedSeat, settled}
+use Rattle.seats.specs.Opening.{callCode, isTxRx, isCoupling, asksCoupling, timesAllowed, holdsCoupling, anyCoupling, ownId, openRefusals, openSaid, openedBench, closeRefusals, closeSaid, closedBench}
+use Rattle.seats.specs.Answers.{openAnswer, doneAnswer}
+use Rattle.seats.specs.declared.record.Seat.{Seat}
+use Rattle.seats.specs.declared.record.Bench.{Bench}
+use Rattle.seats.specs.declared.opening.Request.{Request}
+use Rattle.seats.specs.declared.opening.OpenAnswer.{OpenAnswer}
+use Rattle.seats.specs.declared.opening.OpenAnswer.the-variants as opening
+use Rattle.seats.specs.declared.opening.DoneAnswer.{DoneAnswer}
+use Rattle.seats.specs.declared.opening.DoneAnswer.the-variants as closing
+use Rattle.seats.proofs.RecordLaws.{recordCases}
+
+-- ---- the call type
+
+pub asks-by : (r : Request) (code : ℕ) → code ≡ callCode (r .call) → eqb code 3 ≡ asksCoupling r
+asks-by r code e = rw e
+
+module _ (n call : ℕ) where
+  pub own-number : isTxRx call || isCoupling call ≡ true → n ≡ ownId n call
+  own-number e = simp e
+
+  pub own-none : isTxRx call || isCoupling call ≡ false → 0 ≡ ownId n call
+  own-none e = simp e
+
+-- ---- a seat that is Coupling, looked for among those not passed yet; t is what the test of one seat gave
+
+module _ (ss : List Seat) (i : ℕ) where
+  module _ (t : Bool) (e : t ≡ holdsCoupling (getD ss i closedSeat)) (within : i < length ss) (left : anyCoupling (drop i ss) ≡ anyCoupling ss) where
+    pub coupling-found : t ≡ true → true ≡ anyCoupling ss
+    unfolding anyCoupling
+    coupling-found f = sym here ∙ left
+      where
+        here : anyCoupling (drop i ss) ≡ true
+        here = simp (drop-cons ss i closedSeat, ← e, f)
+
+    pub coupling-passed : t ≡ false → anyCoupling (drop (i + 1) ss) ≡ anyCoupling ss
+    unfolding anyCoupling
+    coupling-passed f = rw add-one (sym here ∙ left)
+      where
+        here : anyCoupling (drop i ss) ≡ anyCoupling (drop (suc i) ss)
+        here = simp (drop-cons ss i closedSeat, ← e, f)
+
+  pub coupling-nowhere : length ss ≡ 8 → 8 ≤ i → anyCoupling (drop i ss) ≡ anyCoupling ss → false ≡ anyCoupling ss
+  unfolding anyCoupling
+  coupling-nowhere h k left = sym here ∙ left
+    where
+      here : anyCoupling (drop i ss) ≡ false
+      here = let over : length ss ≤ i = omega arith in simp (drop-of-length-le ss over)
+
+-- ---- the answer of an opening; s, o, t, l, k and y are what the code's tests gave, in 01's order
+
+module _ (b : Bench) (n : ℕ) (r : Request) (s : Bool) (seat : s ≡ noSuchSeat n) where
+  pub open-13 : s ≡ true → refused 13 0 ≡ openSaid b n r
+  unfolding openSaid openRefusals
+  open-13 p = simp (← seat, p)
+
+  module _ (o : Bool) (opened : o ≡ seatOf (b .seats) n .opened) (p : s ≡ false) where
+    pub open-15 : o ≡ true → refused 15 0 ≡ openSaid b n r
+    unfolding openSaid openRefusals
+    open-15 q = simp (← seat, p, ← opened, q)
+
+    module _ (t : Bool) (times : t ≡ timesAllowed r) (q : o ≡ false) where
+      pub open-16 : not t ≡ true → refused 16 0 ≡ openSaid b n r
+      unfolding openSaid openRefusals
+      open-16 u = simp (← seat, p, ← opened, q, ← times, u)
+
+      module _ (l k : Bool) (in-lesson : l ≡ lesson (b .setup) n) (coupling : k ≡ asksCoupling r) (u : not t ≡ false) where
+        pub open-17 : l && k ≡ true → refused 17 0 ≡ openSaid b n r
+        unfolding openSaid openRefusals
+        open-17 v = simp (← seat, p, ← opened, q, ← times, u, ← in-lesson, ← coupling, v)
+
+        module _ (y : Bool) (taken : y ≡ anyCoupling (b .seats)) (v : l && k ≡ false) where
+          pub open-18 : k && y ≡ true → refused 18 2005 ≡ openSaid b n r
+          unfolding openSaid openRefusals
+          open-18 w = simp (← seat, p, ← opened, q, ← times, u, ← in-lesson, ← coupling, v, ← taken, w)
+
+          pub open-done : (code id : ℕ) → k && y ≡ false → code ≡ callCode (r .call) → id ≡ ownId n code → accepted id ≡ openSaid b n r
+          unfolding openSaid openRefusals
+          open-done code id w c e = simp (← seat, p, ← opened, q, ← times, u, ← in-lesson, ← coupling, v, ← taken, w, e, c)
+
+-- ---- the answer of a closing
+
+module _ (b : Bench) (n : ℕ) (s : Bool) (seat : s ≡ noSuchSeat n) where
+  pub close-13 : s ≡ true → refused 13 0 ≡ closeSaid b n
+  unfolding closeSaid closeRefusals
+  close-13 p = simp (← seat, p)
+
+  module _ (o : Bool) (opened : o ≡ seatOf (b .seats) n .opened) (p : s ≡ false) where
+    pub close-14 : o ≡ false → refused 14 0 ≡ closeSaid b n
+    unfolding closeSaid closeRefusals
+    close-14 q = simp (← seat, p, ← opened, q)
+
+    pub close-done : o ≡ true → accepted tt ≡ closeSaid b n
+    unfolding closeSaid closeRefusals
+    close-done q = simp (← seat, p, ← opened, q)
+
+-- ---- what an answer leaves: a seat's number where it is accepted, the bench as it was where it is refused
+
+module _ (b : Bench) (n : ℕ) (r : Request) (a : OpenAnswer) (said : openAnswer a ≡ openSaid b n r) where
+  pub opened-seat : (id : ℕ) → a ≡ opening.Opened id → noSuchSeat n ≡ false
+  opened-seat id e = by-test (noSuchSeat n) refl
+    where
+      by-test : (t : Bool) → t ≡ noSuchSeat n → noSuchSeat n ≡ false
+      by-test true q = cc (open-13 b n r true q refl)
+      by-test false q = sym q
+
+  pub opened-moves : (id : ℕ) (next : Bench) → a ≡ opening.Opened id → next ≡ openedBench b n r → next ≡ settled (openSaid b n r) b (openedBench b n r)
+  opened-moves id next e m = rw (← said, e) m
+
+  pub opened-stays : (x : Refusal) → a ≡ opening.Refused x → b ≡ settled (openSaid b n r) b (openedBench b n r)
+  opened-stays x e = rw (← said, e)
+
+module _ (b : Bench) (n : ℕ) (a : DoneAnswer) (said : doneAnswer a ≡ closeSaid b n) where
+  pub closed-seat : a ≡ closing.Done → noSuchSeat n ≡ false
+  closed-seat e = by-test (noSuchSeat n) refl
+    where
+      by-test : (t : Bool) → t ≡ noSuchSeat n → noSuchSeat n ≡ false
+      by-test true q = cc (close-13 b n true q refl)
+      by-test false q = sym q
+
+  pub closed-moves : (next : Bench) → a ≡ closing.Done → next ≡ closedBench b n → next ≡ settled (closeSaid b n) b (closedBench b n)
+  closed-moves next e m = rw (← said, e) m
+
+  pub closed-stays : (x : Refusal) → a ≡ closing.Refused x → b ≡ settled (closeSaid b n) b (closedBench b n)
+  closed-stays x e = rw (← said, e)
+
+pub ruleset openingCases = (asks-by, own-number, own-none, coupling-found, coupling-passed, coupling-nowhere, open-13, open-15, open-16, open-17, open-18, open-done, close-13, close-14, close-done, opened-seat, opened-moves, opened-stays, closed-seat, closed-moves, closed-stays, recordCases)

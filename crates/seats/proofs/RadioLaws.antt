@@ -1,0 +1,25 @@
+-- The cases of the side event, as the answers of the code ask for them.
+use mathlib.Core.Path.{_≡_}
+use mathlib.Core.Bool.{Bool, true, false}
+use borrow.Author.Needs.{needs}
+use Rattle.packet.specs.Refusals.{accepted, refused}
+use Rattle.seats.specs.Record.{settled}
+use Rattle.seats.specs.Radio.{sidedBench, sideRefusals, sideSaid}
+use Rattle.seats.specs.declared.record.Bench.{Bench}
+
+module _ (b : Bench) where
+  pub side-23 : b .setup .pair ≡ false → refused 23 0 ≡ sideSaid b
+  unfolding sideSaid sideRefusals
+  side-23 h = simp h
+
+  pub side-done : b .setup .pair ≡ true → accepted tt ≡ sideSaid b
+  unfolding sideSaid sideRefusals
+  side-done h = simp h
+
+  pub side-stays : (standby : Bool) → b .setup .pair ≡ false → b ≡ settled (sideSaid b) b (sidedBench b standby)
+  side-stays standby h = rw (← side-23 h)
+
+  pub side-moves : (standby : Bool) (next : Bench) → b .setup .pair ≡ true → next ≡ sidedBench b standby → next ≡ settled (sideSaid b) b (sidedBench b standby)
+  side-moves standby next h e = rw (← side-done h) e
+
+pub ruleset radioCases = (side-23, side-done, side-stays, side-moves, needs)

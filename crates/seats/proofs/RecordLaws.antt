@@ -1,0 +1,54 @@
+-- What the tests of a seat's number tell, and what a call leaves behind, as the answers of the code ask for it.
+use Prim.Native.Nat.{ℕ, _*_, _-_, _<_, _≤_}
+use mathlib.Core.Path.{_≡_, sym, _∙_}
+use mathlib.Core.Bool.{Bool, true, false}
+use mathlib.Core.List.{List}
+use native.Mathlib.Nat.{mul-le-mul, lt-of-le-of-lt}
+use native.Mathlib.Omega.{arith}
+use borrow.Author.Needs.{needs}
+use borrow.Author.Tests.{eqb-false, ltb-false}
+use lib.Dec.{ltb, eqb, lit<}
+use lib.ListN.{getD}
+use mir.Syntax.{w32}
+use mir.Val.{Fits}
+use Rattle.base.proofs.Truths.{or-left, or-right}
+use Rattle.seats.specs.Record.{noSuchSeat, closedSeat, seatOf, lesson}
+use Rattle.seats.specs.declared.record.Setup.{Setup}
+use Rattle.seats.specs.declared.record.Seat.{Seat}
+
+-- t is what the code's test of the number gave
+module _ (n : ℕ) where
+  pub a-seat : (t : Bool) → t ≡ noSuchSeat n → t ≡ false → noSuchSeat n ≡ false
+  a-seat t e f = sym e ∙ f
+
+  pub seat-from-one : noSuchSeat n ≡ false → 1 ≤ n
+  seat-from-one e = omega (arith, eqb-false n 0 (or-left (eqb n 0) (ltb 8 n) e))
+
+  pub seat-in-place : noSuchSeat n ≡ false → n - 1 < 8
+  seat-in-place e = omega (arith, ltb-false 8 n (or-right (eqb n 0) (ltb 8 n) e))
+
+module _ (n : ℕ) (t : Bool) (e : t ≡ noSuchSeat n) where
+  pub seat-none : (seats : List Seat) → t ≡ true → closedSeat ≡ seatOf seats n
+  unfolding seatOf
+  seat-none seats f = simp (← e, f)
+
+  pub seat-there : (seats : List Seat) → t ≡ false → getD seats (n - 1) closedSeat ≡ seatOf seats n
+  unfolding seatOf
+  seat-there seats f = simp (← e, f)
+
+  pub lesson-none : (setup : Setup) → t ≡ true → false ≡ lesson setup n
+  unfolding lesson
+  lesson-none setup f = simp (← e, f)
+
+  pub lesson-there : (setup : Setup) → t ≡ false → getD (setup .lesson) (n - 1) false ≡ lesson setup n
+  unfolding lesson
+  lesson-there setup f = simp (← e, f)
+
+pub open-there : (seats : List Seat) (n : ℕ) (s : Seat) → s ≡ seatOf seats n → s .opened ≡ seatOf seats n .opened
+open-there seats n s e = rw e
+
+-- period times multiplier
+pub span-fits : (period multiplier : ℕ) → period < 65536 → multiplier < 256 → Fits w32 (period * multiplier)
+span-fits p m h k = record { fits = lt-of-le-of-lt (mul-le-mul {n₂ = 65535} {m₂ = 255} (omega arith) (omega arith)) (lit< tt) }
+
+pub ruleset recordCases = (a-seat, seat-from-one, seat-in-place, seat-none, seat-there, lesson-none, lesson-there, open-there, span-fits, needs)

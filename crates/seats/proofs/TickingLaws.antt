@@ -1,0 +1,78 @@
+-- The cases of a tick, as the answers of the code ask for them.
+use Prim.Native.Nat.{ℕ, zero, _+_, _%_, _<_, _≤_}
+use mathlib.Core.Path.{_≡_, sym, _∙_}
+use mathlib.Core.Bool.{Bool, true, false}
+use mathlib.Core.List.{List, map}
+use native.Mathlib.Nat.{mod-lt}
+use native.Mathlib.Omega.{arith}
+use borrow.Author.Needs.{needs}
+use borrow.Author.Tests.{eq-eqb, ne-eqb, leb-false, lt-leb, lt-ltb, le-ltb}
+use lib.Dec.{leb}
+use mir.Syntax.{w16}
+use mir.Val.{Fits}
+use Rattle.base.proofs.Loops.{fill-more, fill-done}
+use Rattle.base.proofs.Truths.{and-left, and-right}
+use Rattle.packet.specs.Refusals.{accepted, refused}
+use Rattle.seats.specs.Record.{closedSeat, settled}
+use Rattle.seats.specs.Ticking.{fallsSilent, phaseAfter, isDue, aged, tickedSeat, tickRefusals, tickSaid, noSeats, tickSets, tickedBench}
+use Rattle.seats.specs.declared.record.Seat.{Seat}
+use Rattle.seats.specs.declared.record.Bench.{Bench}
+use Rattle.seats.specs.declared.ticking.SeatSets.{SeatSets}
+
+-- what is left over of a period fits where the period does
+pub rest-fits : (a period : ℕ) → (period ≡ 0 → ⊥) → period < 65536 → Fits w16 (a % period)
+rest-fits a p h k = let some : zero < p = omega (arith, h) in record { fits = omega (arith, mod-lt a some) }
+
+module _ (ms period phase : ℕ) where
+  pub phase-none : period ≡ 0 → 0 ≡ phaseAfter ms period phase
+  phase-none e = simp (eq-eqb _ _ e)
+
+  pub phase-rest : (period ≡ 0 → ⊥) → (phase + ms) % period ≡ phaseAfter ms period phase
+  phase-rest h = simp (ne-eqb _ _ h)
+
+module _ (ms : ℕ) (s : Seat) where
+  module _ (t : Bool) (silent : t ≡ fallsSilent ms s) where
+    pub falls-closed : t ≡ true → closedSeat ≡ tickedSeat ms s
+    unfolding fallsSilent tickedSeat
+    falls-closed p = simp (and-left (s .opened) (leb (s .left) ms) (sym silent ∙ p), and-right (s .opened) (leb (s .left) ms) (sym silent ∙ p))
+
+    pub time-left : s .opened ≡ true → t ≡ false → ms < s .left
+    unfolding fallsSilent
+    time-left o p = leb-false _ _ (sym (simp o at silent) ∙ p)
+
+    pub open-ages : (next : Seat) → s .opened ≡ true → t ≡ false → next ≡ aged ms s → next ≡ tickedSeat ms s
+    unfolding tickedSeat
+    open-ages next o p e = simp (e, o, lt-leb _ _ (time-left o p))
+
+  pub closed-untouched : s .opened ≡ false → s ≡ tickedSeat ms s
+  unfolding tickedSeat
+  closed-untouched o = simp o
+
+-- ---- the whole tick
+
+module _ (b : Bench) (ms : ℕ) (h : 1000 < ms) where
+  pub tick-24 : refused 24 0 ≡ tickSaid ms
+  unfolding tickSaid tickRefusals
+  tick-24 = simp (lt-ltb _ _ h)
+
+  pub tick-none : noSeats ≡ tickSets b ms
+  unfolding tickSets
+  tick-none = simp (lt-ltb _ _ h)
+
+  pub tick-stays : b ≡ settled (tickSaid ms) b (tickedBench b ms)
+  tick-stays = rw (← tick-24)
+
+module _ (b : Bench) (ms : ℕ) (h : ms ≤ 1000) where
+  pub tick-done : accepted tt ≡ tickSaid ms
+  unfolding tickSaid tickRefusals
+  tick-done = simp (le-ltb _ _ h)
+
+  pub tick-tells : (closed due : List Bool) → closed ≡ map (fallsSilent ms) (b .seats) → due ≡ map (isDue ms) (b .seats)
+      → _≡_ {A = SeatSets} (record { closed = closed; due = due }) (tickSets b ms)
+  unfolding tickSets
+  tick-tells closed due e f = simp (le-ltb _ _ h, e, f)
+
+  pub tick-moves : (next : Bench) → next ≡ tickedBench b ms → next ≡ settled (tickSaid ms) b (tickedBench b ms)
+  tick-moves next e = rw (← tick-done) e
+
+pub ruleset tickingCases = (rest-fits, phase-none, phase-rest, falls-closed, time-left, open-ages, closed-untouched, tick-24, tick-none, tick-stays, tick-done, tick-tells, tick-moves, fill-more, fill-done, needs)

@@ -1,0 +1,22 @@
+use Rattle.seats.proofs.OpeningLaws.{openingCases}
+use Rattle.seats.proofs.opening.close_answer.Statement.{statement}
+use Rattle.seats.proofs.opening.close_answer.Tie as tie
+
+no-such-seat-requires : tie.Need-no-such-seat-requires
+no-such-seat-requires c κs = search openingCases
+
+returns : tie.Need-returns
+returns c = search openingCases
+
+is-open-requires : tie.Need-is-open-requires
+is-open-requires c κs = search openingCases
+
+returns-2 : tie.Need-returns-2
+returns-2 c = search openingCases
+
+returns-3 : tie.Need-returns-3
+returns-3 c = search openingCases
+
+pub close-answer-spec : {M : Type 1} → statement M
+close-answer-spec =
+    tie.close (tie.spec no-such-seat-requires returns is-open-requires returns-2 returns-3)

@@ -1,0 +1,15 @@
+use Rattle.seats.proofs.RadioLaws.{radioCases}
+use Rattle.seats.proofs.radio.side.Statement.{statement}
+use Rattle.seats.proofs.radio.side.Tie as tie
+
+sided-bench-requires : tie.Need-sided-bench-requires
+sided-bench-requires c κs = search radioCases
+
+returns : tie.Need-returns
+returns c = search radioCases
+
+returns-2 : tie.Need-returns-2
+returns-2 c = search radioCases
+
+pub side-spec : {M : Type 1} → statement M
+side-spec = tie.close (tie.spec sided-bench-requires returns returns-2)

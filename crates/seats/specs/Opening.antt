@@ -1,0 +1,77 @@
+-- 01, The bench and its calls: "Open a seat 1 to 8 .." and "Close a seat."
+use Prim.Native.Nat.{ℕ}
+use mathlib.Core.Bool.{Bool, false, cond, not, _&&_, _||_}
+use mathlib.Core.List.{List, [], _∷_}
+use lib.Dec.{leb, eqb}
+use Rattle.packet.specs.Refusals.{Case, _if_, Answer, accepted, judged}
+use Rattle.seats.specs.Record.{noSuchSeat, seatOf, lesson, closedSeat, openedSeat, withSeat, withSequence}
+use Rattle.seats.specs.declared.record.Setup.{Setup}
+use Rattle.seats.specs.declared.record.Seat.{Seat}
+use Rattle.seats.specs.declared.record.Bench.{Bench}
+use Rattle.seats.specs.declared.opening.CallType.{CallType}
+use Rattle.seats.specs.declared.opening.CallType.the-variants.{Idle, RxOnly, TxRx, Coupling}
+use Rattle.seats.specs.declared.opening.Request.{Request}
+
+-- "a call type (Radio-Idle, Radio-Rxonly, Radio-TxRx, Coupling)", by the code that a seat keeps
+abbrev pub callCode : CallType → ℕ
+callCode Idle = 0
+callCode RxOnly = 1
+callCode TxRx = 2
+callCode Coupling = 3
+
+abbrev pub isTxRx : (call : ℕ) → Bool
+isTxRx call = eqb call 2
+
+abbrev pub isCoupling : (call : ℕ) → Bool
+isCoupling call = eqb call 3
+
+abbrev pub asksCoupling : Request → Bool
+asksCoupling r = isCoupling (callCode (r .call))
+
+-- "R2S period 20 to 1000 ms, multiplier 2 to 50"
+abbrev pub timesAllowed : Request → Bool
+timesAllowed r = leb 20 (r .period) && leb (r .period) 1000 && leb 2 (r .multiplier) && leb (r .multiplier) 50
+
+-- an open seat of call type Coupling
+abbrev pub holdsCoupling : Seat → Bool
+holdsCoupling s = s .opened && isCoupling (s .call)
+
+unfoldable pub anyCoupling : List Seat → Bool
+anyCoupling [] = false
+anyCoupling (s ∷ ss) = holdsCoupling s || anyCoupling ss
+
+-- "Open 13, 15 to 18." (18 says another seat: this one is not open, by 15.)
+unfoldable pub openRefusals : Setup → (n : ℕ) → List Seat → Request → List Case
+openRefusals setup n seats r =
+    13 if noSuchSeat n
+    ∷ 15 if seatOf seats n .opened
+    ∷ 16 if not (timesAllowed r)
+    ∷ 17 if (lesson setup n && asksCoupling r)
+    ∷ 18 if (asksCoupling r && anyCoupling seats)
+    ∷ []
+
+-- "The answer is its own ptt-id: the seat number for TxRx and Coupling, else 0."
+abbrev pub ownId : (n call : ℕ) → ℕ
+ownId n call = cond (isTxRx call || isCoupling call) n 0
+
+unfoldable pub openSaid : Bench → (n : ℕ) → Request → Answer ℕ
+openSaid b n r = judged (openRefusals (b .setup) n (b .seats) r) (ownId n (callCode (r .call)))
+
+-- ".. SSRC and first sequence number for its reports."
+unfoldable pub openedBench : Bench → (n : ℕ) → Request → Bench
+openedBench b n r =
+    withSequence (withSeat b n (openedSeat (callCode (r .call)) (r .period) (r .multiplier) (r .ssrc))) n (r .sequence)
+
+-- "Close 13, 14."
+unfoldable pub closeRefusals : (n : ℕ) → List Seat → List Case
+closeRefusals n seats =
+    13 if noSuchSeat n
+    ∷ 14 if not (seatOf seats n .opened)
+    ∷ []
+
+unfoldable pub closeSaid : Bench → (n : ℕ) → Answer (Unit {0})
+closeSaid b n = judged (closeRefusals n (b .seats)) tt
+
+-- "It can be opened again at once."
+unfoldable pub closedBench : Bench → (n : ℕ) → Bench
+closedBench b n = withSeat b n closedSeat

@@ -1,0 +1,28 @@
+// The record of the bench, and what opening, closing, time and the radio do to it.
+// Start at specs/Record.antt, then Opening.antt, Ticking.antt and Radio.antt, which say in 01's order what the public
+// functions promise; specs/Answers.antt reads their answers as 01 writes them.
+pub mod opening;
+pub mod radio;
+pub mod record;
+pub mod ticking;
+
+pub use opening::CallType;
+pub use opening::Done;
+pub use opening::DoneAnswer;
+pub use opening::OpenAnswer;
+pub use opening::Opened;
+pub use opening::Request;
+pub use opening::close;
+pub use opening::open;
+pub use radio::received;
+pub use radio::side;
+pub use radio::transmitter;
+pub use record::Bench;
+pub use record::Field;
+pub use record::Heard;
+pub use record::Seat;
+pub use record::Setup;
+pub use ticking::SeatSets;
+pub use ticking::Ticked;
+pub use ticking::silence_cause;
+pub use ticking::tick;

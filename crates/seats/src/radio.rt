@@ -1,0 +1,54 @@
+// Radio events: what the radio itself receives, and how it is doing.
+ghost use mathlib.Core.Path.{_≡_};
+ghost use Rattle.seats.specs.Record.{settled};
+ghost use Rattle.seats.specs.Radio.{receivedBench, transmitterBench, sidedBench, sideSaid};
+ghost use Rattle.seats.specs.Answers.{doneAnswer};
+use crate::opening::Done;
+use crate::opening::DoneAnswer;
+use crate::record::Bench;
+use packet::Refusal;
+
+// Signals received, with the level in whole dBm.
+pub fn received(b: Bench, signals: u8, level: i16) -> Bench
+    ensures { λ r. ⌜ r ≡ receivedBench b signals level ⌝ }
+{
+    let mut next = b;
+    next.signals = signals;
+    next.level = level;
+    next
+}
+
+// The transmitter, healthy or not.
+pub fn transmitter(b: Bench, healthy: bool) -> Bench
+    ensures { λ r. ⌜ r ≡ transmitterBench b healthy ⌝ }
+{
+    let mut next = b;
+    next.healthy = healthy;
+    next
+}
+
+// The side now in use, set by the radio itself. 23 on a single radio.
+pub fn side(b: Bench, standby: bool) -> Done
+    ensures answer { λ d. ⌜ doneAnswer (d .answer) ≡ sideSaid b ⌝ }
+    ensures bench { λ d. ⌜ d .bench ≡ settled (sideSaid b) b (sidedBench b standby) ⌝ }
+{
+    let setup = b.setup;
+    if setup.pair {
+        return Done {
+            bench: sided_bench(b, standby),
+            answer: DoneAnswer::Done,
+        };
+    }
+    Done {
+        bench: b,
+        answer: DoneAnswer::Refused(Refusal::SideNotAllowed),
+    }
+}
+
+fn sided_bench(b: Bench, standby: bool) -> Bench
+    ensures { λ r. ⌜ r ≡ sidedBench b standby ⌝ }
+{
+    let mut next = b;
+    next.standby = standby;
+    next
+}
