@@ -27,3 +27,12 @@ push f false a b = refl
 pub either-way : {A : Type 0} (t : Bool) (a : A) → cond t a a ≡ a
 either-way true a = refl
 either-way false a = refl
+
+-- where one side of a test does not decide it, the other does
+pub and-rest : (a b : Bool) → a && b ≡ false → a ≡ true → b ≡ false
+and-rest true b e h = e
+and-rest false b e h = cc
+
+pub or-rest : (a b : Bool) → a || b ≡ true → a ≡ false → b ≡ true
+or-rest true b e h = cc
+or-rest false b e h = e

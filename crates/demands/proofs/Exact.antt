@@ -46,7 +46,7 @@ module _ {A : Type 0} (a : A) where
       record { refuses = refuses cs; only-then = only-then cs; accepts = λ h. (a, accepts cs h); meets-none = meets-none cs }
 
 -- a value made from the value is refused alike
-judged-mapped : {A B : Type 0} (f : A → B) (cs : List Case) (a : A) → mapped f (judged cs a) ≡ judged cs (f a)
+pub judged-mapped : {A B : Type 0} (f : A → B) (cs : List Case) (a : A) → mapped f (judged cs a) ≡ judged cs (f a)
 judged-mapped f [] a = refl
 judged-mapped f (c ∷ cs) a = by-case (c .holds) (judged-mapped f cs a)
   where

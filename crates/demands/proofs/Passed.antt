@@ -39,7 +39,7 @@ bit-zero n e = omega (arith, eqb-false (n % 2) 1 e)
 not-zero : (n : ℕ) → eqb n 0 ≡ false → 1 ≤ n
 not-zero n e = omega (arith, eqb-false n 0 e)
 
-passed : (d : Direction) (ext : ℕ) (p : List ℕ) → NoCase (readerRefusals d ext p) → Passed d ext p
+pub passed : (d : Direction) (ext : ℕ) (p : List ℕ) → NoCase (readerRefusals d ext p) → Passed d ext p
 unfolding readerRefusals
 passed d ext p h =
     record {

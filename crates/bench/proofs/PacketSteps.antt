@@ -1,0 +1,151 @@
+-- The packet's call in steps: 13 and 14, then the reader's 1 to 12, then 19 to 23 of the message.
+use Prim.Native.Nat.{ℕ, _+_, _-_, _≤_, _<_, min}
+use mathlib.Core.Path.{_≡_, refl, ap, sym, _∙_}
+use mathlib.Core.Bool.{Bool, true, false, cond, _||_}
+use mathlib.Core.List.{List, [], _++_}
+use native.Mathlib.Omega.{arith}
+use borrow.Author.Tests.{le-leb, lt-leb, ltb-false, eqb-true, not-false}
+use lib.Dec.{ltb, eqb}
+use lib.ListN.{length, length-drop}
+use Rattle.base.specs.Bytes.{partOf}
+use Rattle.base.proofs.Truths.{or-right}
+use Rattle.packet.specs.Packet.{wordCount, payloadAt, payloadType, payload, audioLength, payloadAllowed}
+use Rattle.packet.specs.Refusals.{Case, NoCase, Answer, accepted, refusal, verdictOf, judged, mapped, andThen}
+use Rattle.packet.specs.Reading.{readerRefusals, messageOf, asTx, read, readTx, txAnswer}
+use Rattle.packet.specs.declared.message.Direction.the-variants as direction
+use Rattle.packet.specs.declared.message.Tx.{Tx}
+use Rattle.packet.specs.declared.refusal.Refusal.{Refusal}
+use Rattle.packet.specs.declared.refusal.Verdict.{Verdict}
+use Rattle.packet.specs.declared.refusal.Verdict.the-variants.{Fine, Refused}
+use Rattle.packet.specs.declared.reader.TxRead.{TxRead}
+use Rattle.packet.specs.declared.reader.TxRead.the-variants as tx
+use Rattle.packet.proofs.Steps.{judged-split}
+use Rattle.seats.specs.Record.{noSuchSeat, seatOf, settled}
+use Rattle.seats.specs.Opening.{closeRefusals}
+use Rattle.bench.specs.Hearing.{messageIn, messageRefusals, packetRefusals, packetSaid, heardBench, hearing, isSent, audioIn, audioAt}
+use Rattle.bench.specs.Steps.{Whole, seatVerdict, messageVerdict, hearingOf, messageSaid}
+use Rattle.bench.specs.Answers.{packetAnswer}
+use Rattle.seats.specs.declared.record.Seat.{Seat}
+use Rattle.seats.specs.declared.record.Bench.{Bench}
+use Rattle.bench.specs.declared.hearing.Hearing.{Hearing}
+use Rattle.bench.specs.declared.hearing.PacketAnswer.the-variants as answer
+use Rattle.bench.specs.declared.hearing.Packeted.{Packeted}
+use Rattle.bench.proofs.Judging.{judged-mapped, by-verdict, meets-none}
+
+-- ---- what passing a test leaves
+
+pub seat-there : (n : ℕ) (seats : List Seat) {v : Verdict} → v ≡ Fine → verdictOf v ≡ seatVerdict n seats → noSuchSeat n ≡ false
+unfolding seatVerdict closeRefusals
+seat-there n seats f e = meets-none (closeRefusals n seats) tt tt (sym e ∙ ap verdictOf f) .0 .0
+
+pub payload-length : (p : List ℕ) → length (payload p) ≡ length p - payloadAt p
+unfolding payload
+payload-length p = simp length-drop
+
+audio-most : (n : ℕ) → audioLength n ≡ true → n ≤ 240
+audio-most n e = by-tests (eqb n 80) (eqb n 160) refl refl e
+  where
+    by-tests : (s t : Bool) → eqb n 80 ≡ s → eqb n 160 ≡ t → s || t || eqb n 240 ≡ true → n ≤ 240
+    by-tests true t p q e = omega (arith, eqb-true n 80 p)
+    by-tests false true p q e = omega (arith, eqb-true n 160 q)
+    by-tests false false p q e = omega (arith, eqb-true n 240 e)
+
+payload-most : (kind n : ℕ) → payloadAllowed kind n ≡ true → n ≤ 240
+unfolding payloadAllowed
+payload-most kind n e = by-kind (eqb kind 8) e
+  where
+    by-kind : (t : Bool) → cond t (audioLength n) (eqb n 0) ≡ true → n ≤ 240
+    by-kind true e = audio-most n e
+    by-kind false e = omega (arith, eqb-true n 0 e)
+
+abbrev passes : Tx → Unit {0}
+passes m = tt
+
+module _ (ext : ℕ) (p : List ℕ) where
+  abbrev readers : List Case
+  readers = readerRefusals direction.Tx ext p
+
+  read-judged : readTx ext p ≡ judged readers (messageIn p)
+  unfolding readTx read
+  read-judged = judged-mapped asTx readers (messageOf p)
+
+  read-verdict : judged readers tt ≡ mapped passes (readTx ext p)
+  read-verdict = sym (judged-mapped passes readers (messageIn p)) ∙ ap (mapped passes) (sym read-judged)
+
+  pub whole : NoCase readers → Whole p
+  unfolding readerRefusals
+  whole none =
+      let behind = none .1 .1 .1 .1 .1 .1 .1 in
+      let few = ltb-false 15 (wordCount p) (or-right (eqb (wordCount p) 0) (ltb 15 (wordCount p)) (behind .0)) in
+      let sound = payload-most (payloadType p) (length (payload p)) (not-false _ (behind .1 .1 .1 .1 .0)) in
+      let end = ltb-false (length p) (payloadAt p) (behind .1 .0) in
+      record { words = end; short = omega (arith, payload-length p) }
+
+  module _ {t : TxRead} {m : Tx} (f : t ≡ tx.Message m) (e : txAnswer t ≡ readTx ext p) where
+    passed : NoCase readers × (messageIn p ≡ m)
+    passed = meets-none readers (messageIn p) m (sym read-judged ∙ sym e ∙ ap txAnswer f)
+
+    pub read-said : messageIn p ≡ m
+    read-said = passed .1
+
+    pub read-whole : Whole p
+    read-whole = whole (passed .0)
+
+-- ---- the steps joined
+
+module _ (b : Bench) (n : ℕ) (p : List ℕ) where
+  in-steps : packetSaid b n p ≡ andThen (andThen (seatVerdict n (b .seats)) (mapped passes (readTx (b .setup .ext) p))) (messageSaid b n (messageIn p) p)
+  unfolding packetSaid packetRefusals seatVerdict closeRefusals messageSaid hearing hearingOf isSent
+  in-steps =
+      judged-split (closeRefusals n (b .seats) ++ readers (b .setup .ext) p) (messageRefusals (b .setup) n (seatOf (b .seats) n) (messageIn p)) (hearing b n p)
+      ∙ ap (λ (v : Answer (Unit {0})). andThen v (messageSaid b n (messageIn p) p))
+      (judged-split (closeRefusals n (b .seats)) (readers (b .setup .ext) p) tt ∙ ap (andThen (seatVerdict n (b .seats))) (read-verdict (b .setup .ext) p))
+
+  module _ {v : Verdict} (e : verdictOf v ≡ seatVerdict n (b .seats)) where
+    pub said-by-seat : {r : Refusal} → v ≡ Refused r → packetSaid b n p ≡ refusal r
+    said-by-seat f = in-steps ∙ simp (← e, f)
+
+    module _ {t : TxRead} (fine : v ≡ Fine) (k : txAnswer t ≡ readTx (b .setup .ext) p) where
+      pub said-by-reader : {r : Refusal} → t ≡ tx.Refused r → packetSaid b n p ≡ refusal r
+      said-by-reader f = in-steps ∙ simp (← e, fine, ← k, f)
+
+      pub said-by-message : {m : Tx} → t ≡ tx.Message m → packetSaid b n p ≡ messageSaid b n m p
+      said-by-message f = in-steps ∙ simp (← e, fine, ← k, f, read-said (b .setup .ext) p f k)
+
+  abbrev told : Tx → Hearing
+  told m = hearingOf (seatOf (b .seats) n) (heardBench b n m) n m p
+
+  decided : (m : Tx) → messageSaid b n m p ≡ mapped (λ (u : Unit {0}). told m) (messageVerdict (b .setup) n (seatOf (b .seats) n) m)
+  unfolding messageVerdict messageSaid
+  decided m = by-verdict (messageRefusals (b .setup) n (seatOf (b .seats) n) m) (told m)
+
+  module _ (m : Tx) {v : Verdict} (e : verdictOf v ≡ messageVerdict (b .setup) n (seatOf (b .seats) n) m) where
+    pub message-refused : {r : Refusal} → v ≡ Refused r → messageSaid b n m p ≡ refusal r
+    message-refused f = decided m ∙ simp (← e, f)
+
+    pub message-accepted : v ≡ Fine → messageSaid b n m p ≡ accepted (told m)
+    message-accepted f = decided m ∙ simp (← e, f)
+
+  -- the bench after a message that was read
+  pub left-by-message : (m : Tx) (said : Answer Hearing) → packetSaid b n p ≡ said → messageIn p ≡ m
+      → settled said b (heardBench b n m) ≡ settled (packetSaid b n p) b (heardBench b n (messageIn p))
+  left-by-message m said e f = cc
+
+-- a refusal: its number, and the bench as it was
+pub turned : (said : Answer Hearing) (before after : Bench) (o : Packeted) (r : Refusal) → (o .bench ≡ before) × (o .answer ≡ answer.Refused r) → said ≡ refusal r
+    → (packetAnswer (o .answer) ≡ said) × (o .bench ≡ settled said before after)
+turned said before after o r h e = (simp (h .1, e), simp (h .0, e))
+
+-- ---- the audio in the packet
+
+module _ (h : Hearing) (p : List ℕ) where
+  pub audio-there : h .at + h .length ≤ length p
+      → (partOf (h .at) (h .at + h .length) p ≡ audioIn (accepted h) p) × (min (h .at) (min (h .at + h .length) (length p)) ≡ audioAt (accepted h) p)
+  unfolding audioIn audioAt
+  audio-there l =
+      let start : min (h .at) (min (h .at + h .length) (length p)) ≡ h .at = omega arith in
+      (simp (le-leb _ _ l), simp (le-leb _ _ l) start)
+
+  pub audio-past : length p < h .at + h .length → ([] ≡ audioIn (accepted h) p) × (0 ≡ audioAt (accepted h) p)
+  unfolding audioIn audioAt
+  audio-past l = (simp (lt-leb _ _ l), simp (lt-leb _ _ l))

@@ -1,0 +1,124 @@
+-- Reports: a report's message is always writable, and its call in steps, 13, 14 and 25, then the writer's 26.
+use Prim.Native.Nat.{ℕ, _-_, _≤_}
+use mathlib.Core.Path.{_≡_, refl, ap, sym, _∙_}
+use mathlib.Core.Bool.{Bool, true, false, cond, not, _&&_, _||_}
+use mathlib.Core.List.{List, [], _∷_, _++_}
+use native.Mathlib.Omega.{arith}
+use borrow.Author.Tests.{le-leb, not-false}
+use lib.Dec.{ltb, eqb, lit≤}
+use lib.IntN.{ℤ}
+use lib.ListN.{length, getD}
+use Rattle.base.proofs.Truths.{or-left}
+use Rattle.packet.specs.Packet.{audioLength}
+use Rattle.packet.specs.Quality.{quality}
+use Rattle.packet.specs.Refusals.{_if_, Answer, accepted, refused, refusal, verdictOf, judged, andThen}
+use Rattle.packet.specs.Writing.{fromRx, encode, sqiWritable, writable, writerRefusals, write, filled, buffered}
+use Rattle.packet.specs.declared.message.SqiItem.the-variants as sqi
+use Rattle.packet.specs.declared.refusal.Refusal.{Refusal}
+use Rattle.packet.specs.declared.refusal.Verdict.{Verdict}
+use Rattle.packet.specs.declared.refusal.Verdict.the-variants.{Fine, Refused}
+use Rattle.packet.proofs.QualityLaws.{quality-most}
+use Rattle.packet.proofs.Steps.{judged-split}
+use Rattle.seats.specs.Record.{noSuchSeat}
+use Rattle.seats.specs.Opening.{closeRefusals}
+use Rattle.air.specs.Air.{topRank, typeOf, smallest, among, leaders, keyings, airOf, benchAir}
+use Rattle.bench.specs.Reporting.{idTold, squTold, sqiTold, audioBarred, reportOf, reportBytes, reportRefusals, reportSaid, reportBuffer}
+use Rattle.bench.specs.Steps.{seatVerdict, reportVerdict}
+use Rattle.seats.specs.declared.record.Seat.{Seat}
+use Rattle.seats.specs.declared.record.Bench.{Bench}
+use Rattle.bench.proofs.Judging.{meets-none}
+use Rattle.seats.proofs.RecordLaws.{seat-in-place}
+
+-- ---- what is told fits its bits
+
+either-most : (t : Bool) (k a b : ℕ) → a ≤ k → b ≤ k → cond t a b ≤ k
+either-most true k a b h l = h
+either-most false k a b h l = l
+
+type-most : (rank : ℕ) → typeOf rank ≤ 5
+type-most r =
+    either-most (eqb r 1) 5 5 _ (lit≤ tt) (either-most (eqb r 2) 5 2 _ (lit≤ tt) (either-most (eqb r 3) 5 1 _ (lit≤ tt)
+    (either-most (eqb r 4) 5 3 _ (lit≤ tt) (either-most (eqb r 5) 5 4 0 (lit≤ tt) (lit≤ tt)))))
+
+pub ptt-most : (b : Bench) → benchAir b .ptt ≤ 5
+unfolding benchAir airOf
+ptt-most b = type-most (topRank (keyings b))
+
+pub id-most : (b : Bench) → benchAir b .id ≤ 8
+unfolding benchAir airOf smallest
+id-most b =
+    let set = leaders (b .setup) (keyings b) in
+    either-most (among set 1) 8 1 _ (lit≤ tt) (either-most (among set 2) 8 2 _ (lit≤ tt) (either-most (among set 3) 8 3 _ (lit≤ tt)
+    (either-most (among set 4) 8 4 _ (lit≤ tt) (either-most (among set 5) 8 5 _ (lit≤ tt) (either-most (among set 6) 8 6 _ (lit≤ tt)
+    (either-most (among set 7) 8 7 _ (lit≤ tt) (either-most (among set 8) 8 8 0 (lit≤ tt) (lit≤ tt))))))))
+
+sqi-writable : (signals : ℕ) (level : ℤ) → sqiWritable (sqiTold signals level) ≡ true
+sqi-writable signals level = by-squ (squTold signals)
+  where
+    by-squ : (t : Bool) → sqiWritable (cond t (sqi.Is (quality level) 0) sqi.Absent) ≡ true
+    by-squ true = le-leb (quality level) 15 (quality-most level)
+    by-squ false = refl
+
+all-five : (a b c d e : Bool) → a ≡ true → b ≡ true → c ≡ true → d ≡ true → e ≡ true → a && b && c && d && e ≡ true
+all-five a b c d e p q r s t = simp (p, q, r, s, t)
+
+-- a report of a seat is never refused with 27
+pub report-writable : (b : Bench) (n timestamp audio : ℕ) → noSuchSeat n ≡ false → audioBarred (b .signals) audio ≡ false
+    → writable (fromRx (reportOf b n timestamp)) audio ≡ true
+unfolding writable reportOf
+report-writable b n timestamp audio h e =
+    let eighth = seat-in-place n h in
+    let own : idTold (benchAir b) n ≤ 8 = either-most (getD (benchAir b .leads) (n - 1) false) 8 n (benchAir b .id) (omega arith) (id-most b) in
+    all-five _ _ _ true _ (le-leb (benchAir b .ptt) 5 (ptt-most b)) (le-leb (idTold (benchAir b) n) 63 (omega arith)) (sqi-writable (b .signals) (b .level)) refl
+    (not-false (eqb audio 0 || audioLength audio) (or-left (not (eqb audio 0 || audioLength audio)) _ e))
+
+-- ---- the steps joined
+
+module _ (n : ℕ) (seats : List Seat) (signals audio : ℕ) where
+  pub report-passed : {v : Verdict} → v ≡ Fine → verdictOf v ≡ reportVerdict n seats signals audio → (noSuchSeat n ≡ false) × (audioBarred signals audio ≡ false)
+  unfolding reportVerdict closeRefusals
+  report-passed f e =
+      let none = meets-none (closeRefusals n seats ++ (25 if audioBarred signals audio ∷ [])) tt tt (sym e ∙ ap verdictOf f) .0 in
+      (none .0, none .1 .1 .0)
+
+  verdict-in-steps : reportVerdict n seats signals audio ≡ andThen (seatVerdict n seats) (judged (25 if audioBarred signals audio ∷ []) tt)
+  unfolding reportVerdict seatVerdict
+  verdict-in-steps = judged-split (closeRefusals n seats) (25 if audioBarred signals audio ∷ []) tt
+
+  module _ {v : Verdict} (e : verdictOf v ≡ seatVerdict n seats) where
+    pub by-seat : {r : Refusal} → v ≡ Refused r → refusal r ≡ reportVerdict n seats signals audio
+    by-seat f = sym (verdict-in-steps ∙ simp (← e, f))
+
+    pub by-audio : (barred : Bool) → v ≡ Fine → audioBarred signals audio ≡ barred
+        → cond barred (refused 25 0) (accepted tt) ≡ reportVerdict n seats signals audio
+    by-audio barred f g = sym (verdict-in-steps ∙ simp (← e, f, g))
+
+module _ (b : Bench) (n timestamp : ℕ) (sound : List ℕ) (room : ℕ) where
+  in-steps : reportSaid b n timestamp sound room
+      ≡ andThen (reportVerdict n (b .seats) (b .signals) (length sound))
+      (judged (26 if ltb room (length (reportBytes b n timestamp sound)) ∷ []) (length (reportBytes b n timestamp sound)))
+  unfolding reportSaid reportRefusals reportVerdict closeRefusals
+  in-steps =
+      judged-split (closeRefusals n (b .seats) ++ (25 if audioBarred (b .signals) (length sound) ∷ []))
+      (26 if ltb room (length (reportBytes b n timestamp sound)) ∷ []) (length (reportBytes b n timestamp sound))
+
+  module _ {v : Verdict} (e : verdictOf v ≡ reportVerdict n (b .seats) (b .signals) (length sound)) where
+    pub report-refused : {r : Refusal} → v ≡ Refused r → reportSaid b n timestamp sound room ≡ refusal r
+    report-refused f = in-steps ∙ simp (← e, f)
+
+    pub report-written : v ≡ Fine → reportSaid b n timestamp sound room ≡ write (b .setup .ext) (fromRx (reportOf b n timestamp)) sound room
+    unfolding reportBytes write writerRefusals
+    report-written f =
+        let passed = report-passed n (b .seats) (b .signals) (length sound) f e in
+        let fine = report-writable b n timestamp (length sound) (passed .0) (passed .1) in
+        in-steps ∙ simp (← e, f, fine)
+
+module _ (b : Bench) (n timestamp : ℕ) (sound buffer : List ℕ) where
+  pub buffer-kept : {k cause : ℕ} → reportSaid b n timestamp sound (length buffer) ≡ refused k cause → reportBuffer b n timestamp sound buffer ≡ buffer
+  unfolding reportBuffer
+  buffer-kept e = simp e
+
+  pub buffer-written : reportSaid b n timestamp sound (length buffer) ≡ write (b .setup .ext) (fromRx (reportOf b n timestamp)) sound (length buffer)
+      → reportBuffer b n timestamp sound buffer ≡ buffered (b .setup .ext) (fromRx (reportOf b n timestamp)) sound buffer
+  unfolding reportBuffer buffered reportBytes
+  buffer-written e = ap (λ (a : Answer ℕ). filled a (encode (b .setup .ext) (fromRx (reportOf b n timestamp)) sound) buffer) e

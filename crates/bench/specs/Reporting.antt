@@ -1,0 +1,87 @@
+-- 01, Report to a seat.
+use Prim.Native.Nat.{ℕ, _+_, _-_, _%_}
+use mathlib.Core.Bool.{Bool, true, false, cond, not, _&&_, _||_}
+use mathlib.Core.List.{List, [], _∷_}
+use lib.Dec.{ltb, leb, eqb}
+use lib.IntN.{ℤ}
+use lib.ListN.{length, getD}
+use Rattle.packet.specs.Packet.{audioLength}
+use Rattle.packet.specs.Items.{rssi}
+use Rattle.packet.specs.Quality.{quality}
+use Rattle.packet.specs.Refusals.{Case, _if_, Answer, accepted, refused, judged}
+use Rattle.packet.specs.Writing.{fromRx, encode, filled}
+use Rattle.packet.specs.declared.message.SqiItem.{SqiItem}
+use Rattle.packet.specs.declared.message.SqiItem.the-variants as sqi
+use Rattle.packet.specs.declared.message.SideItem.{SideItem}
+use Rattle.packet.specs.declared.message.SideItem.the-variants as side
+use Rattle.packet.specs.declared.message.Rx.{Rx}
+use Rattle.seats.specs.Record.{noSuchSeat, seatOf, withSequence}
+use Rattle.air.specs.Air.{benchAir}
+use Rattle.seats.specs.declared.record.Seat.{Seat}
+use Rattle.seats.specs.declared.record.Bench.{Bench}
+use Rattle.air.specs.declared.air.Air.{Air}
+
+-- "ptt-id: 0 if off; the seat's own if it is on the air at the top rank; else the smallest on the air at the top rank."
+abbrev pub idTold : Air → (n : ℕ) → ℕ
+idTold air n = cond (getD (air .leads) (n - 1) false) n (air .id)
+
+-- "SQU: 1 signal or more. SCT: 2 or more."
+abbrev pub squTold : (signals : ℕ) → Bool
+squTold signals = leb 1 signals
+
+abbrev pub sctTold : (signals : ℕ) → Bool
+sctTold signals = leb 2 signals
+
+-- "SQI item, method RSSI, exactly if SQU is 1"
+abbrev pub sqiTold : (signals : ℕ) → ℤ → SqiItem
+sqiTold signals level = cond (squTold signals) (sqi.Is (quality level) rssi) sqi.Absent
+
+-- "Main/standby item, with the side in use, exactly for a pair."
+abbrev pub sideTold : (pair standby : Bool) → SideItem
+sideTold pair standby = cond pair (cond standby side.Standby side.Main) side.Absent
+
+-- The report as a message: "PM: the seat's own last PM."
+unfoldable pub reportOf : Bench → (n timestamp : ℕ) → Rx
+reportOf b n timestamp =
+    record {
+      sequence = getD (b .sequences) (n - 1) 0;
+      timestamp = timestamp;
+      ssrc = seatOf (b .seats) n .ssrc;
+      ptt = benchAir b .ptt;
+      squ = squTold (b .signals);
+      id = idTold (benchAir b) n;
+      pm = seatOf (b .seats) n .heard .field .pm;
+      ptts = benchAir b .ptts;
+      sct = sctTold (b .signals);
+      sqi = sqiTold (b .signals) (b .level);
+      side = sideTold (b .setup .pair) (b .standby);
+    }
+
+-- and as bytes, by the writer of RX messages
+unfoldable pub reportBytes : Bench → (n timestamp : ℕ) → (audio : List ℕ) → List ℕ
+reportBytes b n timestamp sound = encode (b .setup .ext) (fromRx (reportOf b n timestamp)) sound
+
+-- "25 | report audio not 0, 80, 160 or 240 bytes, or audio while SQU is 0"
+abbrev pub audioBarred : (signals length : ℕ) → Bool
+audioBarred signals n = not (eqb n 0 || audioLength n) || (not (squTold signals) && not (eqb n 0))
+
+-- "Report 13, 14, 25, 26."
+unfoldable pub reportRefusals : Bench → (n timestamp : ℕ) → (audio : List ℕ) → (room : ℕ) → List Case
+reportRefusals b n timestamp sound room =
+    13 if noSuchSeat n
+    ∷ 14 if not (seatOf (b .seats) n .opened)
+    ∷ 25 if audioBarred (b .signals) (length sound)
+    ∷ 26 if ltb room (length (reportBytes b n timestamp sound))
+    ∷ []
+
+-- "The answer is its length in bytes. Bytes past its length stay."
+unfoldable pub reportSaid : Bench → (n timestamp : ℕ) → (audio : List ℕ) → (room : ℕ) → Answer ℕ
+reportSaid b n timestamp sound room = judged (reportRefusals b n timestamp sound room) (length (reportBytes b n timestamp sound))
+
+unfoldable pub reportBuffer : Bench → (n timestamp : ℕ) → (audio buffer : List ℕ) → List ℕ
+reportBuffer b n timestamp sound buffer =
+    filled (reportSaid b n timestamp sound (length buffer)) (reportBytes b n timestamp sound) buffer
+
+-- "Its sequence goes up by one, wrapping, with each report written."
+unfoldable pub reportedBench : Bench → (n : ℕ) → Bench
+reportedBench b n = withSequence b n ((getD (b .sequences) (n - 1) 0 + 1) % 65536)

@@ -1,0 +1,86 @@
+// Whether a packet is let in: refusals 13 and 14 of its seat, 19 to 23 of its message.
+ghost use mathlib.Core.Path.{_≡_};
+ghost use Rattle.packet.specs.Refusals.{verdictOf};
+ghost use Rattle.bench.specs.Hearing.{otherSsrc, keyingBarred, idAllowed, sideBarred};
+ghost use Rattle.bench.specs.Steps.{seatVerdict, messageVerdict};
+use crate::memory::has_side;
+use base::late;
+use packet::Refusal;
+use packet::Tx;
+use packet::refusal::Verdict;
+use seats::opening::own_id;
+use seats::record::Heard;
+use seats::record::Seat;
+use seats::record::Setup;
+use seats::record::is_open;
+use seats::record::lesson_seat;
+use seats::record::no_such_seat;
+
+// 13 and 14.
+pub fn seat_verdict(n: u8, seats: [Seat; 8]) -> Verdict
+    ensures { λ r. ⌜ verdictOf r ≡ seatVerdict n seats ⌝ }
+{
+    if no_such_seat(n) {
+        return Verdict::Refused(Refusal::NoSuchSeat);
+    }
+    if is_open(seats, n) {
+        return Verdict::Fine;
+    }
+    Verdict::Refused(Refusal::SeatNotOpen)
+}
+
+// 19 to 23, in this order.
+pub fn message_verdict(setup: Setup, n: u8, s: Seat, m: Tx) -> Verdict
+    ensures { λ r. ⌜ verdictOf r ≡ messageVerdict setup n s m ⌝ }
+{
+    let heard = s.heard;
+    let lesson = lesson_seat(setup, n);
+    if other_ssrc(heard, m) {
+        return Verdict::Refused(Refusal::OtherSsrc);
+    }
+    if late(heard.any, heard.sequence, m.sequence) {
+        return Verdict::Refused(Refusal::NotAfterLast);
+    }
+    if keying_barred(lesson, s.call, m) {
+        return Verdict::Refused(Refusal::KeyingNotAllowed);
+    }
+    if !id_allowed(own_id(n, s.call), m) {
+        return Verdict::Refused(Refusal::OtherId);
+    }
+    if side_barred(lesson, setup.pair, m) {
+        return Verdict::Refused(Refusal::SideNotAllowed);
+    }
+    Verdict::Fine
+}
+
+// 19: the first accepted packet fixes the seat's SSRC.
+fn other_ssrc(h: Heard, m: Tx) -> bool
+    ensures { λ r. ⌜ r ≡ otherSsrc h m ⌝ }
+{
+    h.any & (m.ssrc != h.ssrc)
+}
+
+// 21: PTT on for Idle or Rxonly; Coupling PTT for TxRx; a lesson seat's PTT on other than Test.
+fn keying_barred(lesson: bool, call: u8, m: Tx) -> bool
+    ensures { λ r. ⌜ r ≡ keyingBarred lesson call m ⌝ }
+{
+    let on = m.ptt != 0;
+    let keys = (call == 2) | (call == 3);
+    (on & !keys) | ((m.ptt == 2) & (call == 2)) | (lesson & on & (m.ptt != 5))
+}
+
+// 22: the seat's own ptt-id, or 0 with PTT off.
+fn id_allowed(own: u8, m: Tx) -> bool
+    ensures { λ r. ⌜ r ≡ idAllowed own m ⌝ }
+{
+    let on = m.ptt != 0;
+    (m.id == own) | (!on & (m.id == 0))
+}
+
+// 23: a main/standby item on a single radio or from a lesson seat.
+fn side_barred(lesson: bool, pair: bool, m: Tx) -> bool
+    ensures { λ r. ⌜ r ≡ sideBarred lesson pair m ⌝ }
+{
+    let side = m.side;
+    has_side(side) & (!pair | lesson)
+}

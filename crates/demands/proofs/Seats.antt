@@ -1,0 +1,96 @@
+-- One seat of eight: after another was put in a place, and after all were changed alike.
+use Prim.Native.Nat.{ℕ, zero, suc, _+_, _-_, _≤_, _<_}
+use mathlib.Core.Path.{_≡_, refl, ap, sym, _∙_}
+use mathlib.Core.Bool.{Bool, true, false, cond}
+use mathlib.Core.List.{List, [], _∷_, map}
+use native.Mathlib.Omega.{arith}
+use lib.Dec.{ltb, eqb}
+use lib.ListN.{length, getD, set, replicate, getD-replicate, List·getD-map}
+use lib.Seq.{getD-set-same, getD-set-other, ext-getD}
+use borrow.Author.Tests.{ltb-false, eqb-true, eqb-false, ne-eqb, le-ltb}
+use Rattle.base.proofs.Truths.{or-left, or-right}
+use Rattle.seats.specs.Record.{noSuchSeat, closedSeat, seatOf}
+use Rattle.seats.specs.Opening.{holdsCoupling, anyCoupling}
+use Rattle.seats.specs.declared.record.Seat.{Seat}
+
+-- 13 not met: "seat .. 1 to 8"
+pub seat-in-range : (n : ℕ) → noSuchSeat n ≡ false → (1 ≤ n) × (n ≤ 8)
+seat-in-range n e =
+    let first : eqb n 0 ≡ false = or-left (eqb n 0) (ltb 8 n) e in
+    let last : n ≤ 8 = ltb-false 8 n (or-right (eqb n 0) (ltb 8 n) e) in
+    (omega (arith, eqb-false n 0 first), last)
+
+pub is-seat : (n : ℕ) → 1 ≤ n → n ≤ 8 → noSuchSeat n ≡ false
+is-seat n first last = rw (ne-eqb n 0 (λ e. omega arith)) (le-ltb 8 n last)
+
+pub seat-of-place : (ss : List Seat) (n : ℕ) → noSuchSeat n ≡ false → seatOf ss n ≡ getD ss (n - 1) closedSeat
+unfolding seatOf
+seat-of-place ss n e = rw e
+
+pub seat-of-none : (ss : List Seat) (n : ℕ) → noSuchSeat n ≡ true → seatOf ss n ≡ closedSeat
+unfolding seatOf
+seat-of-none ss n e = rw e
+
+pub seat-put : (ss : List Seat) (m n : ℕ) (s : Seat) → length ss ≡ 8 → noSuchSeat m ≡ false
+    → seatOf (set ss (m - 1) s) n ≡ cond (eqb n m) s (seatOf ss n)
+seat-put ss m n s eight there = by-cases (eqb n m) (noSuchSeat n) refl refl
+  where
+    by-cases : (same none : Bool) → eqb n m ≡ same → noSuchSeat n ≡ none → seatOf (set ss (m - 1) s) n ≡ cond same s (seatOf ss n)
+    by-cases true none e h =
+        let is : n ≡ m = eqb-true n m e in
+        let r = seat-in-range m there in
+        ap (seatOf (set ss (m - 1) s)) is ∙ seat-of-place (set ss (m - 1) s) m there ∙ getD-set-same ss (m - 1) s closedSeat (omega arith)
+    by-cases false true e h = seat-of-none (set ss (m - 1) s) n h ∙ sym (seat-of-none ss n h)
+    by-cases false false e h =
+        let r = seat-in-range m there in
+        let q = seat-in-range n h in
+        seat-of-place (set ss (m - 1) s) n h
+        ∙ getD-set-other ss (m - 1) (n - 1) s closedSeat (λ p. eqb-false n m e (omega arith))
+        ∙ sym (seat-of-place ss n h)
+
+pub seat-changed : (change : Seat → Seat) → change closedSeat ≡ closedSeat → (ss : List Seat) (n : ℕ)
+    → seatOf (map change ss) n ≡ change (seatOf ss n)
+unfolding seatOf
+seat-changed change e ss n = by-case (noSuchSeat n)
+  where
+    at : getD (map change ss) (n - 1) closedSeat ≡ change (getD ss (n - 1) closedSeat)
+    at = ap (getD (map change ss) (n - 1)) (sym e) ∙ List·getD-map change ss (n - 1) closedSeat
+
+    by-case : (none : Bool) → cond none closedSeat (getD (map change ss) (n - 1) closedSeat) ≡ change (cond none closedSeat (getD ss (n - 1) closedSeat))
+    by-case true = sym e
+    by-case false = at
+
+pub seat-of-eight-closed : (n : ℕ) → seatOf (replicate 8 closedSeat) n ≡ closedSeat
+seat-of-eight-closed n = by-case (noSuchSeat n) refl
+  where
+    by-case : (none : Bool) → noSuchSeat n ≡ none → seatOf (replicate 8 closedSeat) n ≡ closedSeat
+    by-case true e = seat-of-none (replicate 8 closedSeat) n e
+    by-case false e =
+        let r = seat-in-range n e in
+        seat-of-place (replicate 8 closedSeat) n e ∙ getD-replicate 8 (n - 1) closedSeat closedSeat (omega arith)
+
+none-at-place : (ss : List Seat) (i : ℕ) → anyCoupling ss ≡ false → holdsCoupling (getD ss i closedSeat) ≡ false
+unfolding anyCoupling
+none-at-place [] i e = refl
+none-at-place (s ∷ ss) zero e = or-left (holdsCoupling s) (anyCoupling ss) e
+none-at-place (s ∷ ss) (suc i) e = none-at-place ss i (or-right (holdsCoupling s) (anyCoupling ss) e)
+
+-- 18 not met: no seat is Coupling
+pub none-coupling : (ss : List Seat) (n : ℕ) → anyCoupling ss ≡ false → holdsCoupling (seatOf ss n) ≡ false
+unfolding seatOf
+none-coupling ss n e = by-case (noSuchSeat n)
+  where
+    by-case : (none : Bool) → holdsCoupling (cond none closedSeat (getD ss (n - 1) closedSeat)) ≡ false
+    by-case true = refl
+    by-case false = none-at-place ss (n - 1) e
+
+-- eight seats are the same where each is
+pub same-seats : (ss rs : List Seat) → length ss ≡ 8 → length rs ≡ 8 → ((n : ℕ) → seatOf ss n ≡ seatOf rs n) → ss ≡ rs
+same-seats ss rs eight eight′ same = ext-getD closedSeat ss rs (eight ∙ sym eight′) at-place
+  where
+    at-place : (i : ℕ) → i < length ss → getD ss i closedSeat ≡ getD rs i closedSeat
+    at-place i h =
+        let there : noSuchSeat (i + 1) ≡ false = is-seat (i + 1) (omega arith) (omega arith) in
+        let place : i + 1 - 1 ≡ i = omega arith in
+        ap (λ (k : ℕ). getD ss k closedSeat) (sym place) ∙ sym (seat-of-place ss (i + 1) there) ∙ same (i + 1)
+        ∙ seat-of-place rs (i + 1) there ∙ ap (λ (k : ℕ). getD rs k closedSeat) place

@@ -1,0 +1,80 @@
+-- Demand 3: "Take two runs from one set-up, alike in every call except those naming a lesson seat. While a healthy
+-- transmitter has an unmuted live keying above Test, each report to a live seat is the same bytes in both, and no lesson
+-- audio is sent. At other times such reports differ at most in PTT type, ptt-id and PTTS. All other answers about live
+-- seats are the same, except whether a Test keying is on the air and its audio sent."
+use Prim.Native.Nat.{ℕ, _-_}
+use mathlib.Core.Path.{_≡_}
+use mathlib.Core.Bool.{Bool, true, false, cond, not, _&&_, _||_}
+use mathlib.Core.List.{List, [], _∷_, _++_, map}
+use lib.Dec.{ltb, eqb}
+use lib.ListN.{take, drop, getD}
+use Rattle.base.specs.Bytes.{number16, bytes16, placed}
+use Rattle.packet.specs.Packet.{pttType, pttId, ptts}
+use Rattle.packet.specs.Refusals.{Answer, accepted, mapped}
+use Rattle.seats.specs.Record.{seatNumbers, seatOf, lesson, freshBench}
+use Rattle.air.specs.Air.{rank, takesPart}
+use Rattle.bench.specs.Step.{Call, opening, closing, packet, tick, report, received, transmitter, side, Said, done, own, heard, ticked, written, Outcome, step, after}
+use Rattle.seats.specs.declared.record.Setup.{Setup}
+use Rattle.seats.specs.declared.record.Bench.{Bench}
+
+-- The seat that a call names, 0 where it names none.
+unfoldable pub named : Call → ℕ
+named (opening n r) = n
+named (closing n) = n
+named (packet n p) = n
+named (report n timestamp sound room) = n
+named (tick ms) = 0
+named (received signals level) = 0
+named (transmitter healthy) = 0
+named (side standby) = 0
+
+unfoldable pub withoutLessons : Setup → List Call → List Call
+withoutLessons setup [] = []
+withoutLessons setup (c ∷ cs) = cond (lesson setup (named c)) (withoutLessons setup cs) (c ∷ withoutLessons setup cs)
+
+abbrev pub test : ℕ
+test = 5
+
+abbrev pub pttOf : Bench → (n : ℕ) → ℕ
+pttOf b n = seatOf (b .seats) n .heard .field .ptt
+
+-- "a healthy transmitter has an unmuted live keying above Test": one of the seats has it. (takesPart: healthy, open, unmuted)
+unfoldable pub liveAboveTest : Bench → (seats : List ℕ) → Bool
+liveAboveTest b [] = false
+liveAboveTest b (n ∷ ns) =
+    (not (lesson (b .setup) n) && takesPart (b .healthy) (seatOf (b .seats) n) && ltb (rank test) (rank (pttOf b n))) || liveAboveTest b ns
+
+-- "PTT type, ptt-id and PTTS" made 0 in a report's field, its bytes 16 and 17
+unfoldable pub blotted : List ℕ → List ℕ
+blotted r =
+    let f = number16 r 16 in
+    take 16 r ++ bytes16 (f - placed 16 0 3 (pttType f) - placed 16 4 6 (pttId f) - placed 16 11 1 (ptts f)) ++ drop 18 r
+
+-- a tick's flags, of live seats only
+unfoldable pub amongLive : Setup → List Bool → List Bool
+amongLive setup flags = map (λ n. not (lesson setup n) && getD flags (n - 1) false) seatNumbers
+
+-- What of an answer has to be the same. Of a report "While .." its bytes, "At other times" these blotted; of "All other
+-- answers" everything, but at other times not the audio of a seat that keys Test.
+unfoldable pub fixed : Setup → (while keysTest : Bool) → Said → Said
+fixed setup while keysTest done = done
+fixed setup while keysTest (own id) = own id
+fixed setup while keysTest (heard missing reply standby sound) = heard missing reply standby (cond (keysTest && not while) [] sound)
+fixed setup while keysTest (ticked closed due) = ticked (amongLive setup closed) (amongLive setup due)
+fixed setup while keysTest (written bytes) = written (cond while bytes (blotted bytes))
+
+unfoldable pub compared : Setup → Call → Outcome → Answer Said
+compared setup c o = mapped (fixed setup (liveAboveTest (o .bench) seatNumbers) (eqb (pttOf (o .bench) (named c)) test)) (o .answer)
+
+-- The benches x and y after two such runs, and any call then: so every call in them, for its forerunners are such runs.
+pub record Apart (setup : Setup) (x y : Bench) : Type 0 where
+  -- "While ..": in both or in neither
+  pub together : liveAboveTest x seatNumbers ≡ liveAboveTest y seatNumbers
+  pub same : (c : Call) → lesson setup (named c) ≡ false → compared setup c (step x c) ≡ compared setup c (step y c)
+  -- ".. and no lesson audio is sent"
+  pub silent : (n : ℕ) (p : List ℕ) → lesson setup n ≡ true → liveAboveTest (step x (packet n p) .bench) seatNumbers ≡ true
+      → (missing : ℕ) (reply standby : Bool) (sound : List ℕ) → step x (packet n p) .answer ≡ accepted (heard missing reply standby sound) → sound ≡ []
+
+abbrev pub LessonsApart : Type 0
+LessonsApart = (setup : Setup) (xs ys : List Call) → withoutLessons setup xs ≡ withoutLessons setup ys
+    → Apart setup (after (freshBench setup) xs) (after (freshBench setup) ys)

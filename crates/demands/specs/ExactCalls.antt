@@ -1,0 +1,34 @@
+-- Demand 1: "Each refusal comes in exactly the case document 01 gives", and a refusal changes neither the bench nor a byte.
+-- So of every call, on every bench.
+use Prim.Native.Nat.{ℕ}
+use mathlib.Core.Path.{_≡_}
+use mathlib.Core.List.{List, []}
+use lib.ListN.{length}
+use Rattle.packet.specs.Refusals.{Case, refused}
+use Rattle.seats.specs.Opening.{openRefusals, closeRefusals}
+use Rattle.seats.specs.Ticking.{tickRefusals}
+use Rattle.seats.specs.Radio.{sideRefusals}
+use Rattle.bench.specs.Hearing.{packetRefusals}
+use Rattle.bench.specs.Reporting.{reportRefusals, reportBuffer}
+use Rattle.bench.specs.Step.{Call, opening, closing, packet, tick, report, received, transmitter, side, step}
+use Rattle.seats.specs.declared.record.Bench.{Bench}
+use Rattle.demands.specs.Exact.{Exact}
+
+-- "Packet 13, 14, 1 to 12, 19 to 23. Open 13, 15 to 18. Close 13, 14. Report 13, 14, 25, 26. Tick 24. Side event 23; the
+-- other events are never refused."
+abbrev pub refusalsOf : Bench → Call → List Case
+refusalsOf b (opening n r) = openRefusals (b .setup) n (b .seats) r
+refusalsOf b (closing n) = closeRefusals n (b .seats)
+refusalsOf b (packet n p) = packetRefusals (b .setup) n (b .seats) p
+refusalsOf b (tick ms) = tickRefusals ms
+refusalsOf b (report n timestamp sound room) = reportRefusals b n timestamp sound room
+refusalsOf b (received signals level) = []
+refusalsOf b (transmitter healthy) = []
+refusalsOf b (side standby) = sideRefusals (b .setup)
+
+pub record CallsExact : Type 0 where
+  pub each-call : (b : Bench) (c : Call) → Exact (refusalsOf b c) (step b c .answer)
+  -- "State and buffers stay the same."
+  pub refused-keeps : (b : Bench) (c : Call) (n cause : ℕ) → step b c .answer ≡ refused n cause → step b c .bench ≡ b
+  pub refused-writes-nothing : (b : Bench) (seat timestamp : ℕ) (sound buffer : List ℕ) (n cause : ℕ)
+      → step b (report seat timestamp sound (length buffer)) .answer ≡ refused n cause → reportBuffer b seat timestamp sound buffer ≡ buffer

@@ -1,0 +1,84 @@
+-- Demand 3's exceptions do occur: two runs, alike but for a lesson seat, in which live seats see that seat's Test keying. And
+-- a live keying above Test wins over a lesson keying that began first.
+use Prim.Native.Nat.{ℕ}
+use mathlib.Core.Path.{_≡_}
+use mathlib.Core.Bool.{true, false}
+use mathlib.Core.List.{List, [], _∷_}
+use lib.ListN.{replicate}
+use Rattle.packet.specs.Refusals.{Answer, accepted}
+use Rattle.packet.specs.Writing.{fromTx, encode}
+use Rattle.packet.specs.declared.message.ClimaxItem.the-variants as climax
+use Rattle.packet.specs.declared.message.SideItem.the-variants as side
+use Rattle.packet.specs.declared.message.Tx.{Tx}
+use Rattle.seats.specs.Record.{seatNumbers, freshBench}
+use Rattle.bench.specs.Step.{Call, opening, packet, report, Said, heard, written, step, after}
+use Rattle.seats.specs.declared.record.Setup.{Setup}
+use Rattle.seats.specs.declared.opening.CallType.the-variants.{TxRx}
+use Rattle.demands.specs.Examples.{around, normal}
+use Rattle.demands.specs.Apart.{withoutLessons, test, liveAboveTest, blotted}
+
+-- seat 8 is the lesson seat; a single radio, lockout, interruption
+abbrev pub lab : Setup
+lab =
+    record {
+      lesson = false ∷ false ∷ false ∷ false ∷ false ∷ false ∷ false ∷ true ∷ [];
+      ext = 0x0167;
+      pair = false;
+      summation = false;
+      coupling = false;
+    }
+
+abbrev pub enters : (n : ℕ) → Call
+enters n = opening n (record { call = TxRx; period = 20; multiplier = 2; ssrc = 7; sequence = 1 })
+
+abbrev pub voice : List ℕ
+voice = replicate 80 0xD5
+
+-- a packet with audio
+abbrev pub keying : (n ptt sequence : ℕ) → Tx
+keying n ptt sequence =
+    record {
+      sequence = sequence;
+      timestamp = 0;
+      ssrc = n;
+      ptt = ptt;
+      id = n;
+      pm = false;
+      ptts = false;
+      climax = climax.Absent;
+      side = side.Absent;
+    }
+
+abbrev pub keys : (n ptt sequence : ℕ) → Call
+keys n ptt sequence = packet n (encode 0x0167 (fromTx (keying n ptt sequence)) voice)
+
+abbrev pub asked : (n : ℕ) → Call
+asked n = report n 0 [] 20
+
+abbrev pub withLesson : List Call
+withLesson = enters 1 ∷ enters 8 ∷ keys 8 test 1 ∷ []
+
+abbrev pub withoutLesson : List Call
+withoutLesson = enters 1 ∷ []
+
+abbrev pub lessonFirst : List Call
+lessonFirst = enters 1 ∷ enters 8 ∷ keys 8 test 1 ∷ keys 1 normal 1 ∷ []
+
+abbrev pub answer : List Call → Call → Answer Said
+answer run c = step (after (freshBench lab) run) c .answer
+
+pub record LessonsSeen : Type 0 where
+  -- the bits that may differ: 0 to 2, 4 to 9 and 11
+  pub blots : blotted (around (0xFF ∷ 0xFF ∷ 0xFF ∷ 0xFF ∷ [])) ≡ around (0x10 ∷ 0x2F ∷ 0xFF ∷ 0xFF ∷ [])
+  pub alike : withoutLessons lab withLesson ≡ withoutLessons lab withoutLesson
+  -- "whether a Test keying is on the air": live seat 1 is told Test, id 8, or off
+  pub seen : answer withLesson (asked 1) ≡ accepted (written (around (0xA2 ∷ 0x00 ∷ 0x00 ∷ 0x00 ∷ [])))
+  pub unseen : answer withoutLesson (asked 1) ≡ accepted (written (around (0x00 ∷ 0x00 ∷ 0x00 ∷ 0x00 ∷ [])))
+  -- ".. and its audio sent": live seat 1 keys Test and is locked out, or sent
+  pub locked-out : answer withLesson (keys 1 test 1) ≡ accepted (heard 0 true false [])
+  pub let-through : answer withoutLesson (keys 1 test 1) ≡ accepted (heard 0 true false voice)
+  -- live seat 1 keys Normal: it is sent, the lesson seat that was on the air is no more, and 1 is told Normal, id 1
+  pub wins : answer withLesson (keys 1 normal 1) ≡ accepted (heard 0 true false voice)
+  pub above : liveAboveTest (after (freshBench lab) lessonFirst) seatNumbers ≡ true
+  pub silenced : answer lessonFirst (keys 8 test 2) ≡ accepted (heard 0 false false [])
+  pub is-told : answer lessonFirst (asked 1) ≡ accepted (written (around (0x20 ∷ 0x40 ∷ 0x00 ∷ 0x00 ∷ [])))
