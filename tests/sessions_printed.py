@@ -63,7 +63,7 @@ def traps(s):
     s.session("trap 2, lesson keyings never stop live ones: the earlier live keying stays on the air")
     s.open("1278")
     s.packet(2, ptt=NORMAL)
-    for _ in range(6):
+    for _ in range(3):
         s.packet(7, ptt=TEST)
         s.packet(8, ptt=TEST)
         s.packet(7)

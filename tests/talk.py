@@ -49,6 +49,11 @@ class Sessions:
         self.answers.append(answer)
         return answer
 
+    def pass_over(self, line):
+        """A line that is not answered."""
+        assert self.console.answer(line) is None, line
+        self.lines.append(line)
+
     def open(self, seats, call="txrx", period=200, multiplier=10, sequence=0):
         """Opens each seat of a text of digits; its reports have SSRC 100 times the seat."""
         for digit in seats:
@@ -89,6 +94,7 @@ class Sessions:
         for digit in seats:
             self.told(int(digit), **expected)
 
-    def save(self, folder, name):
-        (folder / f"{name}stdin").write_text("".join(line + "\n" for line in self.lines))
-        (folder / f"{name}stdout").write_text("".join(answer + "\n" for answer in self.answers))
+    def save(self, folder):
+        """The last line has no end."""
+        (folder / "stdin").write_text("\n".join(self.lines), encoding="latin-1", newline="")
+        (folder / "stdout").write_text("".join(answer + "\n" for answer in self.answers))

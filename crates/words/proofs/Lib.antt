@@ -1,3 +1,8 @@
 pub mod Writing
 pub mod Digits
 pub mod Hex
+pub mod Lines
+pub mod Choices
+pub mod Values
+pub mod Signs
+pub mod Nibbles

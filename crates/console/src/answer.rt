@@ -1,0 +1,200 @@
+// The answer to a call: the library is asked, and what it says is written as a line, with no line end.
+use crate::call::Call;
+use crate::call::Lent;
+use crate::call::ROOM;
+use crate::call::SetupSaid;
+use crate::say::heard_line;
+use crate::say::ok;
+use crate::say::refused;
+use crate::say::ticked_line;
+use crate::say::written_line;
+use crate::usage::expected;
+use crate::usage::help;
+use base::least;
+use base::part;
+use bench::Bench;
+use bench::DoneAnswer;
+use bench::OpenAnswer;
+use bench::PacketAnswer;
+use bench::Request;
+use bench::Setup;
+use packet::Rx;
+use packet::RxRead;
+use packet::Tx;
+use packet::TxRead;
+use packet::payload;
+use words::put;
+use words::put_number;
+
+// The bench after a call, and where the answer ends.
+pub struct Said {
+    pub bench: Bench,
+    pub end: usize,
+}
+
+// `bytes` has the bytes that the line gave; the line itself says what was expected where it is no call.
+pub fn answer(b: Bench, call: Call, s: &[u8], bytes: &[u8], out: &mut [u8]) -> Said {
+    match call {
+        Call::Nothing => told(b, 0),
+        Call::Setup(setup) => told(fresh(setup), ok(out)),
+        Call::Open { seat, request } => open(b, seat, request, out),
+        Call::Close(seat) => close(b, seat, out),
+        Call::Tick(ms) => tick(b, ms, out),
+        Call::Packet { seat, length } => hear(b, seat, part(bytes, 0, length), out),
+        Call::Report {
+            seat,
+            timestamp,
+            lent,
+        } => report(b, seat, timestamp, lent, bytes, out),
+        Call::Received { signals, level } => told(bench::received(b, signals, level), ok(out)),
+        Call::Transmitter { healthy } => told(bench::transmitter(b, healthy), ok(out)),
+        Call::Side { standby } => side(b, standby, out),
+        Call::ReadTx(length) => told(b, read_tx(b, part(bytes, 0, length), out)),
+        Call::ReadRx(length) => told(b, read_rx(b, part(bytes, 0, length), out)),
+        Call::WriteTx { message, lent } => told(b, write_tx(b, message, lent, bytes, out)),
+        Call::WriteRx { message, lent } => told(b, write_rx(b, message, lent, bytes, out)),
+        Call::Help => told(b, help(out)),
+        Call::Wrong => told(b, expected(out, s)),
+    }
+}
+
+fn told(bench: Bench, end: usize) -> Said {
+    Said { bench, end }
+}
+
+fn fresh(s: SetupSaid) -> Bench {
+    let lesson = marks(s.lessons);
+    Bench::fresh(Setup {
+        lesson,
+        ext: s.ext,
+        pair: s.pair,
+        summation: s.summation,
+        coupling: s.coupling,
+    })
+}
+
+// Seats as bits, seat 1 the lowest, as marks.
+fn marks(seats: u8) -> [bool; 8] {
+    [
+        seats & 1 != 0,
+        seats & 2 != 0,
+        seats & 4 != 0,
+        seats & 8 != 0,
+        seats & 16 != 0,
+        seats & 32 != 0,
+        seats & 64 != 0,
+        seats & 128 != 0,
+    ]
+}
+
+fn done(answer: DoneAnswer, out: &mut [u8]) -> usize {
+    match answer {
+        DoneAnswer::Done => ok(out),
+        DoneAnswer::Refused(r) => refused(out, r),
+    }
+}
+
+fn open(b: Bench, seat: u8, request: Request, out: &mut [u8]) -> Said {
+    let opened = bench::open(b, seat, request);
+    let bench = opened.bench;
+    let answer = opened.answer;
+    match answer {
+        OpenAnswer::Refused(r) => told(bench, refused(out, r)),
+        OpenAnswer::Opened(id) => {
+            let at = put(out, 0, b"ok id=");
+            told(bench, put_number(out, at, id as u64))
+        }
+    }
+}
+
+fn close(b: Bench, seat: u8, out: &mut [u8]) -> Said {
+    let closed = bench::close(b, seat);
+    let bench = closed.bench;
+    let answer = closed.answer;
+    told(bench, done(answer, out))
+}
+
+fn tick(b: Bench, ms: u16, out: &mut [u8]) -> Said {
+    let ticked = bench::tick(b, ms);
+    let bench = ticked.bench;
+    let answer = ticked.answer;
+    let sets = ticked.seats;
+    match answer {
+        DoneAnswer::Refused(r) => told(bench, refused(out, r)),
+        DoneAnswer::Done => told(bench, ticked_line(out, sets)),
+    }
+}
+
+fn hear(b: Bench, seat: u8, p: &[u8], out: &mut [u8]) -> Said {
+    let packeted = bench::packet(b, seat, p);
+    let bench = packeted.bench;
+    let answer = packeted.answer;
+    match answer {
+        PacketAnswer::Refused(r) => told(bench, refused(out, r)),
+        PacketAnswer::Accepted(h) => told(bench, heard_line(out, h, bench::audio(answer, p))),
+    }
+}
+
+fn side(b: Bench, standby: bool, out: &mut [u8]) -> Said {
+    let sided = bench::side(b, standby);
+    let bench = sided.bench;
+    let answer = sided.answer;
+    told(bench, done(answer, out))
+}
+
+fn report(b: Bench, seat: u8, timestamp: u32, lent: Lent, bytes: &[u8], out: &mut [u8]) -> Said {
+    let room = least(lent.room, ROOM);
+    let mut buffer = [0u8; ROOM];
+    let reported = bench::report(
+        b,
+        seat,
+        timestamp,
+        part(bytes, 0, lent.audio),
+        &mut buffer[0..room],
+    );
+    let bench = reported.bench;
+    let answer = reported.answer;
+    told(bench, written_line(out, answer, &buffer))
+}
+
+fn read_tx(b: Bench, p: &[u8], out: &mut [u8]) -> usize {
+    let setup = b.setup;
+    match packet::read_tx(setup.ext, p) {
+        TxRead::Refused(r) => refused(out, r),
+        TxRead::Message(m) => show::tx_line(out, m, payload(p).len()),
+    }
+}
+
+fn read_rx(b: Bench, p: &[u8], out: &mut [u8]) -> usize {
+    let setup = b.setup;
+    match packet::read_rx(setup.ext, p) {
+        RxRead::Refused(r) => refused(out, r),
+        RxRead::Message(m) => show::rx_line(out, m, payload(p).len()),
+    }
+}
+
+fn write_tx(b: Bench, m: Tx, lent: Lent, bytes: &[u8], out: &mut [u8]) -> usize {
+    let setup = b.setup;
+    let room = least(lent.room, ROOM);
+    let mut buffer = [0u8; ROOM];
+    let written = packet::write_tx(
+        setup.ext,
+        m,
+        part(bytes, 0, lent.audio),
+        &mut buffer[0..room],
+    );
+    written_line(out, written, &buffer)
+}
+
+fn write_rx(b: Bench, m: Rx, lent: Lent, bytes: &[u8], out: &mut [u8]) -> usize {
+    let setup = b.setup;
+    let room = least(lent.room, ROOM);
+    let mut buffer = [0u8; ROOM];
+    let written = packet::write_rx(
+        setup.ext,
+        m,
+        part(bytes, 0, lent.audio),
+        &mut buffer[0..room],
+    );
+    written_line(out, written, &buffer)
+}

@@ -1,0 +1,67 @@
+// What a line says.
+use bench::Request;
+use packet::Rx;
+use packet::Tx;
+
+// Bytes that the line gives, a packet or audio, lie in a buffer apart; here is how many they are.
+pub enum Call {
+    // A line without words.
+    Nothing,
+    Setup(SetupSaid),
+    Open {
+        seat: u8,
+        request: Request,
+    },
+    Close(u8),
+    Tick(u16),
+    Packet {
+        seat: u8,
+        length: usize,
+    },
+    Report {
+        seat: u8,
+        timestamp: u32,
+        lent: Lent,
+    },
+    Received {
+        signals: u8,
+        level: i16,
+    },
+    Transmitter {
+        healthy: bool,
+    },
+    Side {
+        standby: bool,
+    },
+    ReadTx(usize),
+    ReadRx(usize),
+    WriteTx {
+        message: Tx,
+        lent: Lent,
+    },
+    WriteRx {
+        message: Rx,
+        lent: Lent,
+    },
+    Help,
+    // A line that is no call.
+    Wrong,
+}
+
+// A set-up whose lesson seats are bits, seat 1 the lowest: an enum that holds an array is not covered.
+pub struct SetupSaid {
+    pub lessons: u8,
+    pub ext: u16,
+    pub pair: bool,
+    pub summation: bool,
+    pub coupling: bool,
+}
+
+// The size of the largest buffer that is lent to a writer.
+pub const ROOM: usize = 512;
+
+// What is lent to a writer: so many bytes of audio, and a buffer of so many bytes.
+pub struct Lent {
+    pub audio: usize,
+    pub room: usize,
+}

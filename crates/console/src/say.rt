@@ -1,0 +1,96 @@
+// The lines of answers, with no line end.
+ghost use Prim.Native.Nat.{_<_};
+use crate::call::ROOM;
+use base::part;
+use bench::Hearing;
+use bench::SeatSets;
+use packet::Refusal;
+use packet::Written;
+use packet::cause;
+use packet::number;
+use show::refused_line;
+use words::put;
+use words::put_bit;
+use words::put_byte;
+use words::put_hex;
+use words::put_number;
+
+pub fn ok(out: &mut [u8]) -> usize {
+    put(out, 0, b"ok")
+}
+
+pub fn refused(out: &mut [u8], r: Refusal) -> usize {
+    let at = refused_line(out, number(r));
+    let next = put(out, at, b" cause ");
+    put_number(out, next, cause(r) as u64)
+}
+
+pub fn ticked_line(out: &mut [u8], sets: SeatSets) -> usize {
+    let closed = sets.closed;
+    let due = sets.due;
+    let at = put(out, 0, b"ok closed=");
+    let at = put_seats(out, at, closed);
+    let at = put(out, at, b" due=");
+    put_seats(out, at, due)
+}
+
+pub fn heard_line(out: &mut [u8], h: Hearing, audio: &[u8]) -> usize {
+    let at = put(out, 0, b"ok missing=");
+    let at = put_number(out, at, h.missing as u64);
+    let at = put(out, at, b" reply=");
+    let at = put_bit(out, at, h.reply);
+    let at = put_side(out, at, h.standby);
+    let at = put(out, at, b" audio=");
+    put_bytes(out, at, audio)
+}
+
+// The packet lies at the front of the buffer.
+pub fn written_line(out: &mut [u8], written: Written, buffer: &[u8; ROOM]) -> usize {
+    match written {
+        Written::Refused(r) => refused(out, r),
+        Written::Length(n) => {
+            let at = put(out, 0, b"ok len=");
+            let at = put_number(out, at, n as u64);
+            let at = put(out, at, b" ");
+            put_bytes(out, at, part(buffer, 0, n))
+        }
+    }
+}
+
+fn put_side(out: &mut [u8], at: usize, standby: bool) -> usize {
+    if standby {
+        put(out, at, b" side=standby")
+    } else {
+        put(out, at, b" side=main")
+    }
+}
+
+fn put_bytes(out: &mut [u8], at: usize, bytes: &[u8]) -> usize {
+    if bytes.len() == 0 {
+        put(out, at, b"-")
+    } else {
+        put_hex(out, at, bytes)
+    }
+}
+
+// The digits of the seats of a set, in rising order.
+fn put_seats(out: &mut [u8], at: usize, seats: [bool; 8]) -> usize {
+    let mut next = at;
+    let mut i = 0;
+    while i < 8 {
+        next = put_seat(out, next, seats[i], i as u8);
+        i += 1;
+    }
+    if next == at { put(out, at, b"-") } else { next }
+}
+
+// Seat n has place n - 1.
+fn put_seat(out: &mut [u8], at: usize, marked: bool, place: u8) -> usize
+    requires { ⌜ place < 8 ⌝ }
+{
+    if marked {
+        put_byte(out, at, b'1' + place)
+    } else {
+        at
+    }
+}
