@@ -22,7 +22,7 @@ use Rattle.demands.proofs.LivePackets.{match-packet, lesson-silent}
 
 -- ---- one call
 
-matched : (b : Bench) (c : Call) → Held b → lesson (b .setup) (named c) ≡ false → Match (b .setup) c (step b c) (step (low b) c)
+pub matched : (b : Bench) (c : Call) → Held b → lesson (b .setup) (named c) ≡ false → Match (b .setup) c (step b c) (step (low b) c)
 unfolding named
 matched b (opening n r) i live = match-opening b n r i live
 matched b (closing n) i live = match-closing b n live
@@ -98,10 +98,10 @@ module _ (setup : Setup) where
   its-setup run = setup-after (freshBench setup) run ∙ fresh-setup
 
   -- whether a seat is a lesson seat, by the set-up that the bench holds
-  its-lesson : (run : List Call) (n : ℕ) {t : Bool} → lesson setup n ≡ t → lesson (ran setup run .setup) n ≡ t
+  pub its-lesson : (run : List Call) (n : ℕ) {t : Bool} → lesson setup n ≡ t → lesson (ran setup run .setup) n ≡ t
   its-lesson run n e = ap (λ (s : Setup). lesson s n) (its-setup run) ∙ e
 
-  low-alike : (xs ys : List Call) → withoutLessons setup xs ≡ withoutLessons setup ys
+  pub low-alike : (xs ys : List Call) → withoutLessons setup xs ≡ withoutLessons setup ys
       → low (ran setup xs) ≡ low (ran setup ys)
   low-alike xs ys e =
       low-after setup (freshBench setup) xs fresh-setup (held-fresh setup)

@@ -16,6 +16,7 @@ pub mod Rewrite
 pub mod Examples
 pub mod Calls
 pub mod ExactCalls
+pub mod ExactAll
 pub mod Seats
 pub mod AcceptedCalls
 pub mod SeatAfter
@@ -39,3 +40,5 @@ pub mod LivePackets
 pub mod Apart
 pub mod LessonsSeen
 pub mod Undisturbed
+pub mod Nodding
+pub mod WrongBenches

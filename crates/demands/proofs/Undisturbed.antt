@@ -78,7 +78,7 @@ report-whole setup b n timestamp sound room up =
 
 -- ---- no audio
 
-none-sent : (a : Answer Said) → ((missing : ℕ) (reply standby : Bool) (sound : List ℕ) → a ≡ accepted (heard missing reply standby sound) → sound ≡ [])
+pub none-sent : (a : Answer Said) → ((missing : ℕ) (reply standby : Bool) (sound : List ℕ) → a ≡ accepted (heard missing reply standby sound) → sound ≡ [])
     → audioSent a ≡ []
 unfolding audioSent
 none-sent (accepted done) h = refl
@@ -91,11 +91,11 @@ none-sent (refused n cause) h = refl
 -- ---- the corollary
 
 module _ (setup : Setup) (run : List Call) where
-  apart : Apart setup (ran setup run) (ran setup (withoutLessons setup run))
+  apart : Apart step setup (ran setup run) (ran setup (withoutLessons setup run))
   apart = lessons-apart setup run (withoutLessons setup run) (sym (out-twice setup run))
 
   -- the condition after one more call, whoever makes it
-  together-then : (c : Call) → liveAboveTest (step (ran setup run) c .bench) seatNumbers
+  pub together-then : (c : Call) → liveAboveTest (step (ran setup run) c .bench) seatNumbers
       ≡ liveAboveTest (step (ran setup (withoutLessons setup run)) c .bench) seatNumbers
   together-then c =
       ap (λ (x : Bench). liveAboveTest x seatNumbers) (sym (after-one-more (freshBench setup) run c))

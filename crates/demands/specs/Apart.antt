@@ -66,15 +66,15 @@ fixed setup while keysTest (written bytes) = written (cond while bytes (blotted 
 unfoldable pub compared : Setup → Call → Outcome → Answer Said
 compared setup c o = mapped (fixed setup (liveAboveTest (o .bench) seatNumbers) (eqb (pttOf (o .bench) (named c)) test)) (o .answer)
 
--- The benches x and y after two such runs, and any call then: so every call in them, for its forerunners are such runs.
-pub record Apart (setup : Setup) (x y : Bench) : Type 0 where
+-- The benches x and y after two such runs of a machine (step, below), and any call then: so every call in them, for its forerunners are such runs.
+pub record Apart (machine : Bench → Call → Outcome) (setup : Setup) (x y : Bench) : Type 0 where
   -- "While ..": in both or in neither
   pub together : liveAboveTest x seatNumbers ≡ liveAboveTest y seatNumbers
-  pub same : (c : Call) → lesson setup (named c) ≡ false → compared setup c (step x c) ≡ compared setup c (step y c)
+  pub same : (c : Call) → lesson setup (named c) ≡ false → compared setup c (machine x c) ≡ compared setup c (machine y c)
   -- ".. and no lesson audio is sent"
-  pub silent : (n : ℕ) (p : List ℕ) → lesson setup n ≡ true → liveAboveTest (step x (packet n p) .bench) seatNumbers ≡ true
-      → (missing : ℕ) (reply standby : Bool) (sound : List ℕ) → step x (packet n p) .answer ≡ accepted (heard missing reply standby sound) → sound ≡ []
+  pub silent : (n : ℕ) (p : List ℕ) → lesson setup n ≡ true → liveAboveTest (machine x (packet n p) .bench) seatNumbers ≡ true
+      → (missing : ℕ) (reply standby : Bool) (sound : List ℕ) → machine x (packet n p) .answer ≡ accepted (heard missing reply standby sound) → sound ≡ []
 
 abbrev pub LessonsApart : Type 0
 LessonsApart = (setup : Setup) (xs ys : List Call) → withoutLessons setup xs ≡ withoutLessons setup ys
-    → Apart setup (after (freshBench setup) xs) (after (freshBench setup) ys)
+    → Apart step setup (after (freshBench setup) xs) (after (freshBench setup) ys)

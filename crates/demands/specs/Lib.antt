@@ -1,6 +1,7 @@
 -- The statements. Each file stands alone: the demand's words, then what is shown.
 pub mod Exact
 pub mod ExactCalls
+pub mod ExactAll
 pub mod Plain
 pub mod Inversion
 pub mod RoundTrip
@@ -11,3 +12,4 @@ pub mod Kept
 pub mod Apart
 pub mod LessonsSeen
 pub mod Undisturbed
+pub mod WrongBenches
