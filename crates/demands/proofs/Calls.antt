@@ -12,7 +12,8 @@ use Rattle.bench.specs.Reporting.{reportSaid, reportBytes, reportedBench}
 use Rattle.bench.specs.Step.{Call, opening, closing, packet, tick, report, received, transmitter, side, Said, done, own, ticked, written, told, step}
 use Rattle.seats.specs.declared.record.Bench.{Bench}
 use Rattle.demands.specs.ExactCalls.{refusalsOf}
-use Rattle.demands.proofs.Exact.{accepts, judged-mapped}
+use Rattle.bench.proofs.Judging.{judged-mapped}
+use Rattle.demands.proofs.Exact.{accepts}
 
 -- what a call tells where no case of its list holds
 abbrev pub saidBy : Bench → Call → Said

@@ -8,6 +8,7 @@ use native.Mathlib.Omega.{arith}
 use Rattle.packet.specs.Refusals.{Case, FirstCase, NoCase, Answer, accepted, refused, causeOf, judged, mapped}
 use Rattle.packet.specs.Reading.{readerRefusals, messageOf, read, readTx, readRx, asTx, asRx}
 use Rattle.packet.specs.declared.message.Direction.the-variants as direction
+use Rattle.bench.proofs.Judging.{judged-mapped, meets-none}
 use Rattle.demands.specs.Exact.{Exact, ReadersExact}
 
 pub never : {A : Type 0} (a : A) (n c : ℕ) → accepted a ≡ refused n c → ⊥
@@ -32,28 +33,9 @@ module _ {A : Type 0} (a : A) where
       by-case true p q later = let m : c .number ≡ n = cc in (inl (p, m), cc (ap causeOf m))
       by-case false p q later = (inr (p, later q .0), later q .1)
 
-  meets-none : (cs : List Case) (b : A) → judged cs a ≡ accepted b → NoCase cs
-  meets-none [] b e = tt
-  meets-none (c ∷ cs) b e = by-case (c .holds) refl e (λ q. meets-none cs b q)
-    where
-      by-case : (t : Bool) → c .holds ≡ t → cond t (refused (c .number) (causeOf (c .number))) (judged cs a) ≡ accepted b
-          → (judged cs a ≡ accepted b → NoCase cs) → NoCase (c ∷ cs)
-      by-case true p q later = absurd (never b (c .number) (causeOf (c .number)) (sym q))
-      by-case false p q later = (p, later q)
-
   pub exact-judged : (cs : List Case) → Exact cs (judged cs a)
   exact-judged cs =
-      record { refuses = refuses cs; only-then = only-then cs; accepts = λ h. (a, accepts cs h); meets-none = meets-none cs }
-
--- a value made from the value is refused alike
-pub judged-mapped : {A B : Type 0} (f : A → B) (cs : List Case) (a : A) → mapped f (judged cs a) ≡ judged cs (f a)
-judged-mapped f [] a = refl
-judged-mapped f (c ∷ cs) a = by-case (c .holds) (judged-mapped f cs a)
-  where
-    by-case : (t : Bool) → mapped f (judged cs a) ≡ judged cs (f a)
-        → mapped f (cond t (refused (c .number) (causeOf (c .number))) (judged cs a)) ≡ cond t (refused (c .number) (causeOf (c .number))) (judged cs (f a))
-    by-case true h = refl
-    by-case false h = h
+      record { refuses = refuses cs; only-then = only-then cs; accepts = λ h. (a, accepts cs h); meets-none = λ b e. meets-none cs a b e .0 }
 
 pub readers-exact : ReadersExact
 unfolding read readTx readRx
