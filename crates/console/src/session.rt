@@ -62,12 +62,14 @@ fn taken(h: Held, piece: &[u8], line: &mut [u8]) -> Held {
 
 // Answers one line, and writes the answer in one call.
 pub fn answered(b: Bench, length: usize, line: &[u8]) -> Bench {
+    // The longest answer, 30 ms of audio in hexadecimal, has under 600 bytes.
     let mut out = [0u8; 2048];
     if LINE < length {
         let end = too_long(&mut out);
         send(&mut out, end);
         return b;
     }
+    // Two digits a byte: no line says more.
     let mut bytes = [0u8; 1024];
     let s = part(line, 0, length);
     let call = parsed(s, &mut bytes);

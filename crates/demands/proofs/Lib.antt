@@ -42,3 +42,5 @@ pub mod LessonsSeen
 pub mod Undisturbed
 pub mod Nodding
 pub mod WrongBenches
+pub mod TellApartCalls
+pub mod Tight

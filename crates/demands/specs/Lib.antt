@@ -13,3 +13,4 @@ pub mod Apart
 pub mod LessonsSeen
 pub mod Undisturbed
 pub mod WrongBenches
+pub mod Tight
