@@ -138,6 +138,18 @@ tight-words = record {
   put-bit = λ out at b. written;
   put-number = λ out at n. written;
   put-hex = λ out at bytes. written;
+  word = λ s n. lies s _;
+  last = λ s n. lies s _;
+  choice = λ w list. equals;
+  place-of = λ w b. equals;
+  digit = λ b r s p q. p .0 ∙ sym (q .0);
+  number = λ w. equals;
+  half = λ w. equals;
+  hex-half = λ w. equals;
+  byte = λ w. equals;
+  level = λ w. equals;
+  dash = λ w. equals;
+  bytes = λ w out. both equals;
 }
 
 pub tight-show : TightShow

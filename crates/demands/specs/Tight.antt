@@ -1,7 +1,7 @@
 -- 01, How tightly the promises bind: "For every input each public function's promise leaves one possible answer, one next
 -- state and one content of the lent buffer, also when it refuses. Show that any two that satisfy it coincide."
 -- A line for each public function of each crate, with its promise as its `ensures` says it; docs/PROMISES.md is the table.
-use Prim.Native.Nat.{ℕ, _+_, _*_, min}
+use Prim.Native.Nat.{ℕ, _+_, _*_, _≤_, min}
 use mathlib.Core.Path.{_≡_}
 use mathlib.Core.Bool.{Bool}
 use mathlib.Core.List.{List, [], _∷_}
@@ -44,6 +44,9 @@ use Rattle.bench.specs.declared.hearing.Packeted.{Packeted}
 use Rattle.bench.specs.declared.reporting.Reported.{Reported}
 use Rattle.words.specs.Text.{Written, decimal, hex}
 use Rattle.words.specs.Text as words
+use Rattle.words.specs.Input.{wordAt, wordOf, lastOf, choiceOf, placeOf}
+use Rattle.words.specs.Numbers.{digitOf, numberIn, halfOf, byteOf, levelOf}
+use Rattle.words.specs.Pairs.{isDash, bytesSaid, bytesLaid}
 use Rattle.show.specs.Lines.{txLine, rxLine, refusedLine, answerLine, decodedLine}
 
 -- Any two results that satisfy the promise coincide.
@@ -129,6 +132,18 @@ pub record TightWords : Type 0 where
   pub put-bit : (out : List ℕ) (at : ℕ) (b : Bool) → OneResultAndBuffer (λ r left. Written out left at r (words.bit b))
   pub put-number : (out : List ℕ) (at n : ℕ) → OneResultAndBuffer (λ r left. Written out left at r (decimal n))
   pub put-hex : (out : List ℕ) (at : ℕ) (bytes : List ℕ) → OneResultAndBuffer (λ r left. Written out left at r (hex bytes))
+  pub word : (s : RefT (List ℕ)) (n : ℕ) → OnePart (λ r. (now r ≡ wordOf (now s) n) × LiesAt s (wordAt (now s) n) r)
+  pub last : (s : RefT (List ℕ)) (n : ℕ) → OnePart (λ r. (now r ≡ lastOf (now s) n) × LiesAt s (wordAt (now s) n) r)
+  pub choice : (w list : List ℕ) → OneResult (λ r. r ≡ choiceOf w list)
+  pub place-of : (w : List ℕ) (b : ℕ) → OneResult (λ r. r ≡ placeOf b w)
+  pub digit : (b : ℕ) → OneResult (λ r. (r ≡ digitOf b) × (r ≤ 16))
+  pub number : (w : List ℕ) → OneResult (λ r. r ≡ numberIn 10 w)
+  pub half : (w : List ℕ) → OneResult (λ r. r ≡ halfOf (numberIn 10 w))
+  pub hex-half : (w : List ℕ) → OneResult (λ r. r ≡ halfOf (numberIn 16 w))
+  pub byte : (w : List ℕ) → OneResult (λ r. r ≡ byteOf (numberIn 10 w))
+  pub level : (w : List ℕ) → OneResult (λ r. r ≡ levelOf w)
+  pub dash : (w : List ℕ) → OneResult (λ r. r ≡ isDash w)
+  pub bytes : (w out : List ℕ) → OneResultAndBuffer (λ r left. (r ≡ bytesSaid w (length out)) × (left ≡ bytesLaid w out))
 
 pub record TightShow : Type 0 where
   pub tx-line : (out : List ℕ) (m : Tx) (audio : ℕ) → OneResultAndBuffer (λ r left. Written out left 0 r (txLine m audio))
@@ -138,7 +153,7 @@ pub record TightShow : Type 0 where
       → OneResultAndBuffer (λ r left. Written out left 0 r (answerLine (txAnswer read) audio))
   pub decode : (out : List ℕ) (ext : ℕ) (p : List ℕ) → OneResultAndBuffer (λ r left. Written out left 0 r (decodedLine ext p))
 
--- All 53.
+-- All 65.
 pub record Tight : Type 0 where
   pub base : TightBase
   pub packet : TightPacket
