@@ -1,0 +1,144 @@
+#!/usr/bin/env python3
+"""Runs long random sessions of well-formed calls on the console and checks what needs no second implementation:
+no `error:` line; the same session twice gives the same answers; a refused call changes nothing (the session without
+its refused calls answers the same); and demand 3 (the session without its lesson calls answers live seats the same,
+but for what the demand allows).
+
+  tests/soak.py [LINES] [SEED]     LINES a session, 20,000 if not given
+
+The console is run by ./ostalenc, which proves and builds it where it is not built yet.
+"""
+
+import pathlib
+import random
+import subprocess
+import sys
+
+ROOT = pathlib.Path(__file__).resolve().parent.parent
+LESSONS = "78"
+NAMES_A_SEAT = ("open", "close", "packet", "report")
+TEST = 5
+
+
+def answers(lines):
+    given = "".join(line + "\n" for line in lines).encode()
+    run = subprocess.run([str(ROOT / "ostalenc"), "console"], input=given, capture_output=True, check=True)
+    return run.stdout.decode().splitlines()
+
+
+def a_packet(r, seat, sequence):
+    """A plain TX packet, now and then with a bit turned or its end cut."""
+    ptt = r.choice([0, 0, 1, 1, 2, 3, 4, TEST, TEST, TEST])
+    items = b"".join(r.sample([bytes([0x21, 0x80 + r.randrange(128)]), bytes([0x51, r.choice([0, 0x80])])], r.choice([0, 0, 0, 1, 2])))
+    field = ptt << 13 | seat << 6 | (r.random() < 0.1) << 5 | (r.random() < 0.2) << 4 | bool(items)
+    words = field.to_bytes(2, "big") + items
+    words += bytes(-len(words) % 4)
+    audio = bytes(r.choice([0, 0, 80, 160, 240]))
+    head = bytes([0x90, 8 if audio else 123]) + sequence.to_bytes(2, "big") + bytes(4) + seat.to_bytes(4, "big")
+    data = bytearray(head + b"\x01\x67" + (len(words) // 4).to_bytes(2, "big") + words + audio)
+    if r.random() < 0.08:
+        data[r.randrange(len(data))] ^= 1 << r.randrange(8)
+    if r.random() < 0.03:
+        del data[r.randrange(len(data)) :]
+    return ptt, data.hex() or "-"
+
+
+def session(count, seed):
+    """The lines, and of each packet the PTT type that it was built with."""
+    r = random.Random(seed)
+    modes = f"{r.choice(['single', 'pair', 'pair'])} {r.choice(['lockout', 'summation'])} {r.choice(['interruption', 'summation'])}"
+    lines, types, sequence = [f"setup {LESSONS} 0167 {modes}"], {}, [0] * 10
+    while len(lines) < count:
+        seat = r.choice([1, 2, 3, 4, 5, 6, 7, 8, 7, 8, 0, 9])
+        kind = r.choices(["packet", "report", "tick", "open", "close", "received", "transmitter", "side"], [40, 26, 5, 20, 1, 4, 2, 2])[0]
+        if kind == "packet":
+            sequence[seat] = (sequence[seat] + r.choice([1, 1, 1, 1, 1, 1, 2, 9, 0, 32767])) % 65536
+            types[len(lines)], data = a_packet(r, seat, sequence[seat])
+            lines.append(f"packet {seat} {data}")
+        elif kind == "report":
+            audio = "00" * r.choice([0, 0, 80, 160, 240, 1]) or "-"
+            lines.append(f"report {seat} {r.randrange(2**32)} {audio} {r.choice([20, 24, 264, 512, 0])}")
+        elif kind == "open":
+            call = r.choice(["txrx"] * 5 + ["idle", "rxonly", "coupling"])
+            lines.append(f"open {seat} {call} {r.choice([200, 1000, 1000, 1000, 1000, 19])} {r.choice([2, 50, 50, 50, 50, 50, 51])} {r.randrange(2**32)} {r.randrange(65536)}")
+        else:
+            words = {"close": seat, "tick": r.choice([0, 1, 10, 20, 20, 100, 1000, 1001]),
+                     "received": f"{r.choice([0, 1, 2, 255])} {r.randrange(-120, -50)}",
+                     "transmitter": r.choice(["healthy", "healthy", "healthy", "unhealthy"]), "side": r.choice(["main", "standby"])}
+            lines.append(f"{kind} {words[kind]}")
+    return lines, types
+
+
+def names_a_lesson(line):
+    words = line.split()
+    return words[0] in NAMES_A_SEAT and words[1] in LESSONS
+
+
+def blotted(report):
+    """A report's bytes without PTT type, ptt-id and PTTS."""
+    data = bytearray.fromhex(report)
+    data[16:18] = (int.from_bytes(data[16:18], "big") & 0b0001_0000_0010_1111).to_bytes(2, "big")
+    return data.hex()
+
+
+def live_seats(ticked):
+    """The live seats closed and due: `ok closed=SEATS due=SEATS`."""
+    return [set(part.partition("=")[2]) - set(LESSONS + "-") for part in ticked.split()[1:]]
+
+
+def allowed(line, ptt, mixed, alone):
+    """Demand 3: what the session with lesson calls may answer where the one without them answers `alone`."""
+    kind = line.split()[0]
+    if mixed == alone:
+        return True
+    if not (mixed.startswith("ok ") and alone.startswith("ok ")):
+        return False
+    if kind == "tick":
+        return live_seats(mixed) == live_seats(alone)
+    if kind == "packet":
+        return ptt == TEST and mixed.rpartition(" audio=")[0] == alone.rpartition(" audio=")[0]
+    if kind == "report":
+        told = int(alone.split()[2][32:34], 16) >> 5
+        return told in (0, TEST) and blotted(mixed.split()[2]) == blotted(alone.split()[2])
+    return False
+
+
+def fail(what, lines, number):
+    sys.exit(f"FAIL: {what} at line {number + 1}: {lines[number][:120]}")
+
+
+def soak(count, seed):
+    lines, types = session(count, seed)
+    first = answers(lines)
+    if len(first) != len(lines):
+        sys.exit(f"FAIL: {len(lines)} calls, {len(first)} answers")
+    for i, answer in enumerate(first):
+        if answer.startswith("error:"):
+            fail("an error for a well-formed line", lines, i)
+    if answers(lines) != first:
+        sys.exit("FAIL: the same session answered otherwise")
+    kept = [i for i, answer in enumerate(first) if not answer.startswith("refused ")]
+    again = answers([lines[i] for i in kept])
+    for i, answer in zip(kept, again):
+        if answer != first[i]:
+            fail("a refused call before it changed the answer", lines, i)
+    live = [i for i, line in enumerate(lines) if not names_a_lesson(line)]
+    alone = answers([lines[i] for i in live])
+    for i, answer in zip(live, alone):
+        # a bit that was turned may have made or unmade a Test packet: the audio may differ only if it is one
+        if not allowed(lines[i], types.get(i, 0), first[i], answer):
+            fail("a lesson call before it changed what a live seat is told", lines, i)
+    differing = sum(first[i] != answer for i, answer in zip(live, alone))
+    refused = len(first) - len(kept)
+    print(f"seed {seed}: {len(lines)} calls, {refused} refused; {len(lines) - len(live)} lesson calls left out, {differing} live answers differed as demand 3 allows")
+
+
+def main():
+    count = int(sys.argv[1]) if len(sys.argv) > 1 else 20_000
+    seeds = [int(sys.argv[2])] if len(sys.argv) > 2 else range(1, 5)
+    for seed in seeds:
+        soak(count, seed)
+
+
+if __name__ == "__main__":
+    main()
