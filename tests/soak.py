@@ -40,21 +40,19 @@ def a_packet(r, seat, sequence):
         data[r.randrange(len(data))] ^= 1 << r.randrange(8)
     if r.random() < 0.03:
         del data[r.randrange(len(data)) :]
-    return ptt, data.hex() or "-"
+    return data.hex() or "-"
 
 
 def session(count, seed):
-    """The lines, and of each packet the PTT type that it was built with."""
     r = random.Random(seed)
     modes = f"{r.choice(['single', 'pair', 'pair'])} {r.choice(['lockout', 'summation'])} {r.choice(['interruption', 'summation'])}"
-    lines, types, sequence = [f"setup {LESSONS} 0167 {modes}"], {}, [0] * 10
+    lines, sequence = [f"setup {LESSONS} 0167 {modes}"], [0] * 10
     while len(lines) < count:
         seat = r.choice([1, 2, 3, 4, 5, 6, 7, 8, 7, 8, 0, 9])
         kind = r.choices(["packet", "report", "tick", "open", "close", "received", "transmitter", "side"], [40, 26, 5, 20, 1, 4, 2, 2])[0]
         if kind == "packet":
             sequence[seat] = (sequence[seat] + r.choice([1, 1, 1, 1, 1, 1, 2, 9, 0, 32767])) % 65536
-            types[len(lines)], data = a_packet(r, seat, sequence[seat])
-            lines.append(f"packet {seat} {data}")
+            lines.append(f"packet {seat} {a_packet(r, seat, sequence[seat])}")
         elif kind == "report":
             audio = "00" * r.choice([0, 0, 80, 160, 240, 1]) or "-"
             lines.append(f"report {seat} {r.randrange(2**32)} {audio} {r.choice([20, 24, 264, 512, 0])}")
@@ -66,7 +64,7 @@ def session(count, seed):
                      "received": f"{r.choice([0, 1, 2, 255])} {r.randrange(-120, -50)}",
                      "transmitter": r.choice(["healthy", "healthy", "healthy", "unhealthy"]), "side": r.choice(["main", "standby"])}
             lines.append(f"{kind} {words[kind]}")
-    return lines, types
+    return lines
 
 
 def names_a_lesson(line):
@@ -86,7 +84,13 @@ def live_seats(ticked):
     return [set(part.partition("=")[2]) - set(LESSONS + "-") for part in ticked.split()[1:]]
 
 
-def allowed(line, ptt, mixed, alone):
+def ptt_type(packet):
+    """Of an accepted packet, behind its CSRC words."""
+    data = bytes.fromhex(packet)
+    return data[16 + 4 * (data[0] % 16)] >> 5
+
+
+def allowed(line, mixed, alone):
     """Demand 3: what the session with lesson calls may answer where the one without them answers `alone`."""
     kind = line.split()[0]
     if mixed == alone:
@@ -96,7 +100,7 @@ def allowed(line, ptt, mixed, alone):
     if kind == "tick":
         return live_seats(mixed) == live_seats(alone)
     if kind == "packet":
-        return ptt == TEST and mixed.rpartition(" audio=")[0] == alone.rpartition(" audio=")[0]
+        return ptt_type(line.split()[2]) == TEST and mixed.rpartition(" audio=")[0] == alone.rpartition(" audio=")[0]
     if kind == "report":
         told = int(alone.split()[2][32:34], 16) >> 5
         return told in (0, TEST) and blotted(mixed.split()[2]) == blotted(alone.split()[2])
@@ -108,7 +112,7 @@ def fail(what, lines, number):
 
 
 def soak(count, seed):
-    lines, types = session(count, seed)
+    lines = session(count, seed)
     first = answers(lines)
     if len(first) != len(lines):
         sys.exit(f"FAIL: {len(lines)} calls, {len(first)} answers")
@@ -125,8 +129,7 @@ def soak(count, seed):
     live = [i for i, line in enumerate(lines) if not names_a_lesson(line)]
     alone = answers([lines[i] for i in live])
     for i, answer in zip(live, alone):
-        # a bit that was turned may have made or unmade a Test packet: the audio may differ only if it is one
-        if not allowed(lines[i], types.get(i, 0), first[i], answer):
+        if not allowed(lines[i], first[i], answer):
             fail("a lesson call before it changed what a live seat is told", lines, i)
     differing = sum(first[i] != answer for i, answer in zip(live, alone))
     refused = len(first) - len(kept)
