@@ -44,3 +44,4 @@ pub mod Nodding
 pub mod WrongBenches
 pub mod TellApartCalls
 pub mod Tight
+pub mod StepOfCode

@@ -3,162 +3,142 @@ use Prim.Native.Nat.{ℕ}
 use mathlib.Core.Path.{_≡_, ap, ap₂, sym, _∙_}
 use mathlib.Core.List.{List}
 use denote.Ref.{RefT, now}
-use Rattle.base.specs.Bytes.{LiesAt}
 use Rattle.packet.proofs.TellApart.{tx-tells, rx-tells, written-tells}
-use Rattle.packet.specs.Refusals.{Answer}
-use Rattle.packet.specs.Writing.{writtenAnswer}
-use Rattle.seats.specs.Answers.{openAnswer, doneAnswer}
-use Rattle.bench.specs.Answers.{packetAnswer}
-use Rattle.bench.specs.declared.hearing.Hearing.{Hearing}
-use Rattle.seats.specs.declared.ticking.SeatSets.{SeatSets}
 use Rattle.words.specs.Text.{Written}
 use Rattle.words.proofs.Writing.{written-once}
-use Rattle.seats.specs.declared.record.Bench.{Bench}
 use Rattle.seats.specs.declared.opening.Opened.{Opened}
 use Rattle.seats.specs.declared.opening.Done.{Done}
 use Rattle.seats.specs.declared.ticking.Ticked.{Ticked}
 use Rattle.bench.specs.declared.hearing.Packeted.{Packeted}
 use Rattle.bench.specs.declared.reporting.Reported.{Reported}
-use Rattle.demands.specs.Tight.{OneResult, OneResultAndBuffer, OnePart, TightBase, TightPacket, TightSeats, TightAir, TightBench, TightWords, TightShow, Tight}
+use Rattle.demands.specs.Tight.{TightBase, TightPacket, TightSeats, TightAir, TightBench, TightWords, TightShow, Tight}
 use Rattle.demands.proofs.TellApartCalls.{open-tells, done-tells, packet-tells}
 
 -- the promise is an equation for the result
-equals : {A : Type 0} {x : A} → OneResult (λ (r : A). r ≡ x)
-equals r s p q = p ∙ sym q
+meet : {A : Type 0} {x y z : A} → x ≡ z → y ≡ z → x ≡ y
+meet p q = p ∙ sym q
 
 -- it is one for what a map that tells apart makes of the result
-told : {A B : Type 0} {f : A → B} {x : B} → ((r s : A) → f r ≡ f s → r ≡ s) → OneResult (λ (r : A). f r ≡ x)
-told tells r s p q = tells r s (p ∙ sym q)
+told : {A B : Type 0} {f : A → B} {r s : A} {z : B} → ((r s : A) → f r ≡ f s → r ≡ s) → f r ≡ z → f s ≡ z → r ≡ s
+told {r = r} {s = s} tells p q = tells r s (p ∙ sym q)
 
--- the promise is one for the result and one for the buffer
-both : {A : Type 0} {P : A → Type 0} {left : List ℕ} → OneResult P → OneResultAndBuffer (λ (r : A) (out : List ℕ). P r × (out ≡ left))
-both one r s out other p q = (one r s (p .0) (q .0), p .1 ∙ sym (q .1))
-
--- it is one for the content of a part, and it says where the part begins
-lies : (s : RefT (List ℕ)) (at : ℕ) {content : List ℕ} → OnePart (λ (r : RefT (List ℕ)). (now r ≡ content) × LiesAt s at r)
-lies s at r t p q = (p .0 ∙ sym (q .0), ap₂ (λ a i. (a, i)) (p .1 .0 ∙ sym (q .1 .0)) (p .1 .1 ∙ sym (q .1 .1)))
+-- it says where a part begins
+same-place : (r s : RefT (List ℕ)) {block at : ℕ} → (r .ptr .0 ≡ block) × (r .ptr .1 ≡ at) → (s .ptr .0 ≡ block) × (s .ptr .1 ≡ at) → r .ptr ≡ s .ptr
+same-place r s p q = ap₂ (λ a i. (a, i)) (meet (p .0) (q .0)) (meet (p .1) (q .1))
 
 -- it is a text written from a place on
-written : {out : List ℕ} {at : ℕ} {t : List ℕ} → OneResultAndBuffer (λ (r : ℕ) (left : List ℕ). Written out left at r t)
-written r s left other p q = let z = written-once p q in (z .1, z .0)
+written : {out left other text : List ℕ} {at r s : ℕ} → Written out left at r text → Written out other at s text → (r ≡ s) × (left ≡ other)
+written p q = let z = written-once p q in (z .1, z .0)
 
 -- Of each call: its answer, told apart, and the bench beside it.
-opened-once : {said : Answer ℕ} {next : Bench} → OneResult (λ (o : Opened). (openAnswer (o .answer) ≡ said) × (o .bench ≡ next))
-opened-once o p h k =
-    ap₂ (λ bench answer. record { bench = bench; answer = answer }) (equals _ _ (h .1) (k .1)) (told open-tells _ _ (h .0) (k .0))
+opened-once : {r s : Opened} → r .answer ≡ s .answer → r .bench ≡ s .bench → r ≡ s
+opened-once p q = ap₂ (λ bench answer. record { bench = bench; answer = answer }) q p
 
-done-once : {said : Answer (Unit {0})} {next : Bench} → OneResult (λ (d : Done). (doneAnswer (d .answer) ≡ said) × (d .bench ≡ next))
-done-once d e h k =
-    ap₂ (λ bench answer. record { bench = bench; answer = answer }) (equals _ _ (h .1) (k .1)) (told done-tells _ _ (h .0) (k .0))
+done-once : {r s : Done} → r .answer ≡ s .answer → r .bench ≡ s .bench → r ≡ s
+done-once p q = ap₂ (λ bench answer. record { bench = bench; answer = answer }) q p
 
-ticked-once : {said : Answer (Unit {0})} {sets : SeatSets} {next : Bench}
-    → OneResult (λ (t : Ticked). (doneAnswer (t .answer) ≡ said) × (t .seats ≡ sets) × (t .bench ≡ next))
-ticked-once t u h k =
-    ap₂ (λ bench sets. record { bench = bench; answer = t .answer; seats = sets }) (equals _ _ (h .2) (k .2)) (equals _ _ (h .1) (k .1))
-    ∙ ap (λ answer. record { bench = u .bench; answer = answer; seats = u .seats }) (told done-tells _ _ (h .0) (k .0))
+ticked-once : {r s : Ticked} → r .answer ≡ s .answer → r .seats ≡ s .seats → r .bench ≡ s .bench → r ≡ s
+ticked-once {r} {s} p q w =
+    ap₂ (λ bench sets. record { bench = bench; answer = r .answer; seats = sets }) w q
+    ∙ ap (λ answer. record { bench = s .bench; answer = answer; seats = s .seats }) p
 
-packeted-once : {said : Answer Hearing} {next : Bench} → OneResult (λ (r : Packeted). (packetAnswer (r .answer) ≡ said) × (r .bench ≡ next))
-packeted-once r s h k =
-    ap₂ (λ bench answer. record { bench = bench; answer = answer }) (equals _ _ (h .1) (k .1)) (told packet-tells _ _ (h .0) (k .0))
+packeted-once : {r s : Packeted} → r .answer ≡ s .answer → r .bench ≡ s .bench → r ≡ s
+packeted-once p q = ap₂ (λ bench answer. record { bench = bench; answer = answer }) q p
 
-reported-once : {said : Answer ℕ} {left : List ℕ} {next : Bench}
-    → OneResultAndBuffer (λ (r : Reported) (out : List ℕ). (writtenAnswer (r .answer) ≡ said) × (out ≡ left) × (r .bench ≡ next))
-reported-once r s out other h k = (
-  ap₂ (λ bench answer. record { bench = bench; answer = answer }) (equals _ _ (h .2) (k .2)) (told written-tells _ _ (h .0) (k .0)),
-  equals _ _ (h .1) (k .1),
-)
+reported-once : {r s : Reported} → r .answer ≡ s .answer → r .bench ≡ s .bench → r ≡ s
+reported-once p q = ap₂ (λ bench answer. record { bench = bench; answer = answer }) q p
 
 pub tight-base : TightBase
 tight-base = record {
-  byte-at = λ s i. equals;
-  join8 = λ high low. equals;
-  join16 = λ high low. equals;
-  number16-at = λ s i. equals;
-  number32-at = λ s i. equals;
-  least = λ a b. equals;
-  bit = λ b. equals;
-  part = λ s from to. lies s _;
-  copy-in = λ out from. both equals;
-  distance = λ last new. equals;
-  late = λ heard last new. equals;
-  size = λ z. equals;
-  missing = λ heard last new. equals;
+  byte-at = λ k a r s d e. meet;
+  join8 = λ k a r s d e. meet;
+  join16 = λ k a r s d e. meet;
+  number16-at = λ k a r s d e. meet;
+  number32-at = λ k a r s d e. meet;
+  least = λ k a r s d e. meet;
+  bit = λ k a r s d e. meet;
+  part = λ k a r s d e p q. (meet (p .0) (q .0), same-place r s (p .1) (q .1));
+  copy-in = λ k a r s d e p q. (meet (p .0) (q .0), meet (p .1) (q .1));
+  distance = λ k a r s d e. meet;
+  late = λ k a r s d e. meet;
+  size = λ k a r s d e. meet;
+  missing = λ k a r s d e. meet;
 }
 
 pub tight-packet : TightPacket
 tight-packet = record {
-  read-tx = λ ext p. told tx-tells;
-  read-rx = λ ext p. told rx-tells;
-  payload = λ p. lies p _;
-  audio-length = λ n. equals;
-  write-tx = λ ext m audio out. both (told written-tells);
-  write-rx = λ ext m audio out. both (told written-tells);
-  number = λ r. equals;
-  cause = λ r. equals;
-  quality = λ level. equals;
+  read-tx = λ k a r s d e. told tx-tells;
+  read-rx = λ k a r s d e. told rx-tells;
+  payload = λ k a r s d e p q. (meet (p .0) (q .0), same-place r s (p .1) (q .1));
+  audio-length = λ k a r s d e. meet;
+  write-tx = λ k a r s d e p q. (told written-tells (p .0) (q .0), meet (p .1) (q .1));
+  write-rx = λ k a r s d e p q. (told written-tells (p .0) (q .0), meet (p .1) (q .1));
+  number = λ k a r s d e. meet;
+  cause = λ k a r s d e. meet;
+  quality = λ k a r s d e. meet;
 }
 
 pub tight-seats : TightSeats
 tight-seats = record {
-  opened = λ call period multiplier ssrc. equals;
-  fresh = λ setup. equals;
-  no-such-seat = λ n. equals;
-  seat-of = λ seats n. equals;
-  lesson-seat = λ setup n. equals;
-  is-open = λ seats n. equals;
-  open-seat = λ b n q. opened-once;
-  close = λ b n. done-once;
-  own-id = λ n call. equals;
-  received = λ b signals level. equals;
-  transmitter = λ b healthy. equals;
-  side = λ b standby. done-once;
-  tick = λ b ms. ticked-once;
-  silence-cause = equals;
+  opened = λ k a r s d e. meet;
+  fresh = λ k a r s d e. meet;
+  no-such-seat = λ k a r s d e. meet;
+  seat-of = λ k a r s d e. meet;
+  lesson-seat = λ k a r s d e. meet;
+  is-open = λ k a r s d e. meet;
+  open-seat = λ k a r s d e p q. opened-once (told open-tells (p .0) (q .0)) (meet (p .1) (q .1));
+  close = λ k a r s d e p q. done-once (told done-tells (p .0) (q .0)) (meet (p .1) (q .1));
+  own-id = λ k a r s d e. meet;
+  received = λ k a r s d e. meet;
+  transmitter = λ k a r s d e. meet;
+  side = λ k a r s d e p q. done-once (told done-tells (p .0) (q .0)) (meet (p .1) (q .1));
+  tick = λ k a r s d e p q. ticked-once (told done-tells (p .0) (q .0)) (meet (p .1 .0) (q .1 .0)) (meet (p .1 .1) (q .1 .1));
+  silence-cause = λ k a r s d e. meet;
 }
 
 pub tight-air : TightAir
 tight-air = record {
-  keyed = λ f. equals;
-  bench-air = λ b. equals;
-  moved-last = λ order n. equals;
-  order-after = λ n old new order. equals;
+  keyed = λ k a r s d e. meet;
+  bench-air = λ k a r s d e. meet;
+  moved-last = λ k a r s d e. meet;
+  order-after = λ k a r s d e. meet;
 }
 
 pub tight-bench : TightBench
 tight-bench = record {
-  packet = λ b n p. packeted-once;
-  audio = λ answer p. lies p _;
-  report = λ b n timestamp audio out. reported-once;
+  packet = λ k a r s d e p q. packeted-once (told packet-tells (p .0) (q .0)) (meet (p .1) (q .1));
+  audio = λ k a r s d e p q. (meet (p .0) (q .0), same-place r s (p .1) (q .1));
+  report = λ k a r s d e p q. (reported-once (told written-tells (p .0) (q .0)) (meet (p .1 .1) (q .1 .1)), meet (p .1 .0) (q .1 .0));
 }
 
 pub tight-words : TightWords
 tight-words = record {
-  put-byte = λ out at b. written;
-  put = λ out at text. written;
-  put-bit = λ out at b. written;
-  put-number = λ out at n. written;
-  put-hex = λ out at bytes. written;
-  word = λ s n. lies s _;
-  last = λ s n. lies s _;
-  choice = λ w list. equals;
-  place-of = λ w b. equals;
-  digit = λ b r s p q. p .0 ∙ sym (q .0);
-  number = λ w. equals;
-  half = λ w. equals;
-  hex-half = λ w. equals;
-  byte = λ w. equals;
-  level = λ w. equals;
-  dash = λ w. equals;
-  bytes = λ w out. both equals;
+  put-byte = λ k a r s d e. written;
+  put = λ k a r s d e. written;
+  put-bit = λ k a r s d e. written;
+  put-number = λ k a r s d e. written;
+  put-hex = λ k a r s d e. written;
+  word = λ k a r s d e p q. (meet (p .0) (q .0), same-place r s (p .1) (q .1));
+  last = λ k a r s d e p q. (meet (p .0) (q .0), same-place r s (p .1) (q .1));
+  choice = λ k a r s d e. meet;
+  place-of = λ k a r s d e. meet;
+  digit = λ k a r s d e p q. meet (p .0) (q .0);
+  number = λ k a r s d e. meet;
+  half = λ k a r s d e. meet;
+  hex-half = λ k a r s d e. meet;
+  byte = λ k a r s d e. meet;
+  level = λ k a r s d e. meet;
+  dash = λ k a r s d e. meet;
+  bytes = λ k a r s d e p q. (meet (p .0) (q .0), meet (p .1) (q .1));
 }
 
 pub tight-show : TightShow
 tight-show = record {
-  tx-line = λ out m audio. written;
-  rx-line = λ out m audio. written;
-  refused-line = λ out number. written;
-  answer-line = λ out read audio. written;
-  decode = λ out ext p. written;
+  tx-line = λ k a r s d e. written;
+  rx-line = λ k a r s d e. written;
+  refused-line = λ k a r s d e. written;
+  answer-line = λ k a r s d e. written;
+  decode = λ k a r s d e. written;
 }
 
 pub tight : Tight

@@ -14,3 +14,4 @@ pub mod LessonsSeen
 pub mod Undisturbed
 pub mod WrongBenches
 pub mod Tight
+pub mod StepOfCode
