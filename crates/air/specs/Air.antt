@@ -4,6 +4,7 @@ use mathlib.Core.Bool.{Bool, true, false, cond, not, _&&_, _||_}
 use mathlib.Core.List.{List, [], _∷_, _++_, map}
 use lib.Dec.{ltb, leb, eqb}
 use lib.ListN.{length}
+use Rattle.packet.specs.Packet.{off, normal, coupling, priority, emergency, test}
 use Rattle.seats.specs.Record.{seatNumbers, seatOf}
 use Rattle.seats.specs.declared.record.Setup.{Setup}
 use Rattle.seats.specs.declared.record.Field.{Field}
@@ -14,14 +15,15 @@ use Rattle.air.specs.declared.air.Air.{Air}
 -- "Rank: Test, Coupling, Normal, Priority, Emergency, lowest first." 0 for off and for the reserved codes.
 abbrev pub rank : (ptt : ℕ) → ℕ
 rank ptt =
-    cond (eqb ptt 5) 1 (cond (eqb ptt 2) 2 (cond (eqb ptt 1) 3 (cond (eqb ptt 3) 4 (cond (eqb ptt 4) 5 0))))
+    cond (eqb ptt test) 1 (cond (eqb ptt coupling) 2 (cond (eqb ptt normal) 3 (cond (eqb ptt priority) 4 (cond (eqb ptt emergency) 5 0))))
 
 abbrev pub couplingRank : ℕ
-couplingRank = 2
+couplingRank = rank coupling
 
 -- the PTT type of a rank, off for 0
 abbrev pub typeOf : (rank : ℕ) → ℕ
-typeOf r = cond (eqb r 1) 5 (cond (eqb r 2) 2 (cond (eqb r 3) 1 (cond (eqb r 4) 3 (cond (eqb r 5) 4 0))))
+typeOf r =
+    cond (eqb r 1) test (cond (eqb r 2) coupling (cond (eqb r 3) normal (cond (eqb r 4) priority (cond (eqb r 5) emergency off))))
 
 -- ".. has PTT on and PM 0"
 abbrev pub keyed : Field → Bool

@@ -46,9 +46,10 @@ pub fn number16_at(s: &[u8], i: u32) -> u16
 pub fn number32_at(s: &[u8], i: u32) -> u32
     ensures { λ r. ⌜ r ≡ number32 (now (s .entry)) i ⌝ }
 {
-    let at = i as usize;
-    let high = join8(byte_at(s, at), byte_at(s, at + 1));
-    let low = join8(byte_at(s, at + 2), byte_at(s, at + 2 + 1));
+    let first = i as usize;
+    let second = first + 2;
+    let high = join8(byte_at(s, first), byte_at(s, first + 1));
+    let low = join8(byte_at(s, second), byte_at(s, second + 1));
     join16(high, low)
 }
 

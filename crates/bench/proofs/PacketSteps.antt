@@ -21,9 +21,9 @@ use Rattle.packet.specs.declared.reader.TxRead.{TxRead}
 use Rattle.packet.specs.declared.reader.TxRead.the-variants as tx
 use Rattle.packet.proofs.Steps.{judged-split}
 use Rattle.seats.specs.Record.{noSuchSeat, seatOf, settled}
-use Rattle.seats.specs.Opening.{closeRefusals}
+use Rattle.seats.specs.Opening.{closeRefusals, seatVerdict}
 use Rattle.bench.specs.Hearing.{messageIn, messageRefusals, packetRefusals, packetSaid, heardBench, hearing, isSent, audioIn, audioAt}
-use Rattle.bench.specs.Steps.{Whole, seatVerdict, messageVerdict, hearingOf, messageSaid}
+use Rattle.bench.specs.Steps.{Whole, messageVerdict, hearingOf, messageSaid}
 use Rattle.bench.specs.Answers.{packetAnswer}
 use Rattle.seats.specs.declared.record.Seat.{Seat}
 use Rattle.seats.specs.declared.record.Bench.{Bench}
@@ -33,10 +33,6 @@ use Rattle.bench.specs.declared.hearing.Packeted.{Packeted}
 use Rattle.bench.proofs.Judging.{judged-mapped, by-verdict, meets-none}
 
 -- ---- what passing a test leaves
-
-pub seat-there : (n : ℕ) (seats : List Seat) {v : Verdict} → v ≡ Fine → verdictOf v ≡ seatVerdict n seats → noSuchSeat n ≡ false
-unfolding seatVerdict closeRefusals
-seat-there n seats f e = meets-none (closeRefusals n seats) tt tt (sym e ∙ ap verdictOf f) .0 .0
 
 pub payload-length : (p : List ℕ) → length (payload p) ≡ length p - payloadAt p
 unfolding payload

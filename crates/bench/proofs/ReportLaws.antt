@@ -20,10 +20,10 @@ use Rattle.packet.specs.declared.refusal.Verdict.the-variants.{Fine, Refused}
 use Rattle.packet.proofs.QualityLaws.{quality-most}
 use Rattle.packet.proofs.Steps.{judged-split}
 use Rattle.seats.specs.Record.{noSuchSeat}
-use Rattle.seats.specs.Opening.{closeRefusals}
+use Rattle.seats.specs.Opening.{closeRefusals, seatVerdict}
 use Rattle.air.specs.Air.{topRank, typeOf, smallest, among, leaders, keyings, airOf, benchAir}
 use Rattle.bench.specs.Reporting.{idTold, squTold, sqiTold, audioBarred, reportOf, reportBytes, reportRefusals, reportSaid, reportBuffer}
-use Rattle.bench.specs.Steps.{seatVerdict, reportVerdict}
+use Rattle.bench.specs.Steps.{reportVerdict}
 use Rattle.seats.specs.declared.record.Seat.{Seat}
 use Rattle.seats.specs.declared.record.Bench.{Bench}
 use Rattle.bench.proofs.Judging.{meets-none}

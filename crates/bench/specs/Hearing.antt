@@ -6,7 +6,7 @@ use lib.Dec.{eqb, leb}
 use lib.ListN.{length, set, getD}
 use Rattle.base.specs.Bytes.{partOf}
 use Rattle.base.specs.Order.{late, missing}
-use Rattle.packet.specs.Packet.{payload, payloadAt}
+use Rattle.packet.specs.Packet.{payload, payloadAt, off, coupling, test}
 use Rattle.packet.specs.Refusals.{Case, _if_, Answer, accepted, refused, judged}
 use Rattle.packet.specs.Reading.{readerRefusals, messageOf, asTx}
 use Rattle.packet.specs.declared.message.Direction.the-variants as direction
@@ -67,11 +67,11 @@ otherSsrc h m = h .any && not (eqb (m .ssrc) (h .ssrc))
 
 -- "21 | PTT on for Idle or Rxonly; Coupling PTT for TxRx; lesson seat with PTT on other than Test"
 abbrev pub pttOn : Tx → Bool
-pttOn m = not (eqb (m .ptt) 0)
+pttOn m = not (eqb (m .ptt) off)
 
 unfoldable pub keyingBarred : (isLesson : Bool) (call : ℕ) → Tx → Bool
 keyingBarred isLesson call m =
-    (pttOn m && not (isTxRx call || isCoupling call)) || (eqb (m .ptt) 2 && isTxRx call) || (isLesson && pttOn m && not (eqb (m .ptt) 5))
+    (pttOn m && not (isTxRx call || isCoupling call)) || (eqb (m .ptt) coupling && isTxRx call) || (isLesson && pttOn m && not (eqb (m .ptt) test))
 
 -- "22 | ptt-id not the seat's own; with PTT off 0 also passes"
 unfoldable pub idAllowed : (own : ℕ) → Tx → Bool

@@ -23,10 +23,6 @@ pub record Whole (p : List ℕ) : Type 0 where
   pub words : payloadAt p ≤ length p
   pub short : length p ≤ 376
 
--- 13 and 14, of each call for a seat that is open
-unfoldable pub seatVerdict : (n : ℕ) → List Seat → Answer (Unit {0})
-seatVerdict n seats = judged (closeRefusals n seats) tt
-
 -- 19 to 23, of a message that was read
 unfoldable pub messageVerdict : Setup → (n : ℕ) → Seat → Tx → Answer (Unit {0})
 messageVerdict setup n s m = judged (messageRefusals setup n s m) tt

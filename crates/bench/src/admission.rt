@@ -1,8 +1,8 @@
-// Whether a packet is let in: refusals 13 and 14 of its seat, 19 to 23 of its message.
+// Whether a message is let in: refusals 19 to 23.
 ghost use mathlib.Core.Path.{_≡_};
 ghost use Rattle.packet.specs.Refusals.{verdictOf};
 ghost use Rattle.bench.specs.Hearing.{otherSsrc, keyingBarred, idAllowed, sideBarred};
-ghost use Rattle.bench.specs.Steps.{seatVerdict, messageVerdict};
+ghost use Rattle.bench.specs.Steps.{messageVerdict};
 use crate::memory::has_side;
 use base::late;
 use packet::Refusal;
@@ -12,22 +12,7 @@ use seats::opening::own_id;
 use seats::record::Heard;
 use seats::record::Seat;
 use seats::record::Setup;
-use seats::record::is_open;
 use seats::record::lesson_seat;
-use seats::record::no_such_seat;
-
-// 13 and 14.
-pub fn seat_verdict(n: u8, seats: [Seat; 8]) -> Verdict
-    ensures { λ r. ⌜ verdictOf r ≡ seatVerdict n seats ⌝ }
-{
-    if no_such_seat(n) {
-        return Verdict::Refused(Refusal::NoSuchSeat);
-    }
-    if is_open(seats, n) {
-        return Verdict::Fine;
-    }
-    Verdict::Refused(Refusal::SeatNotOpen)
-}
 
 // 19 to 23, in this order.
 pub fn message_verdict(setup: Setup, n: u8, s: Seat, m: Tx) -> Verdict

@@ -9,7 +9,6 @@ ghost use Rattle.bench.specs.Hearing.{messageIn, heardBench, packetSaid,
 ghost use Rattle.bench.specs.Answers.{packetAnswer};
 ghost use Rattle.bench.specs.Steps.{Whole, hearingOf, messageSaid};
 use crate::admission::message_verdict;
-use crate::admission::seat_verdict;
 use crate::memory::field_heard;
 use crate::memory::heard_bench;
 use crate::memory::same_field;
@@ -22,6 +21,7 @@ use packet::TxRead;
 use packet::payload;
 use packet::read_tx;
 use packet::refusal::Verdict;
+use seats::opening::seat_verdict;
 use seats::record::Bench;
 use seats::record::Seat;
 use seats::record::seat_of;

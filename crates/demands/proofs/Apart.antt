@@ -4,6 +4,7 @@ use mathlib.Core.Path.{_≡_, refl, sym, ap, ap₂, subst, _∙_}
 use mathlib.Core.Bool.{Bool, true, false, cond}
 use mathlib.Core.List.{List, [], _∷_}
 use lib.Dec.{eqb}
+use Rattle.packet.specs.Packet.{test}
 use Rattle.packet.specs.Refusals.{mapped}
 use Rattle.seats.specs.Record.{seatNumbers, lesson, freshBench}
 use Rattle.seats.specs.Radio.{receivedBench, transmitterBench}
@@ -11,7 +12,7 @@ use Rattle.bench.specs.Step.{Call, opening, closing, packet, tick, report, rece
 use Rattle.seats.specs.declared.record.Setup.{Setup}
 use Rattle.seats.specs.declared.record.Seat.{Seat}
 use Rattle.seats.specs.declared.record.Bench.{Bench}
-use Rattle.demands.specs.Apart.{named, withoutLessons, test, pttOf, liveAboveTest, fixed, compared, LessonsApart}
+use Rattle.demands.specs.Apart.{named, withoutLessons, pttOf, liveAboveTest, fixed, compared, LessonsApart}
 use Rattle.demands.proofs.WithoutLessons.{low, seat-low}
 use Rattle.demands.proofs.LessonSeats.{Held, held-step, held-fresh, setup-kept}
 use Rattle.demands.proofs.BenchAir.{above-test-low}

@@ -5,6 +5,7 @@ use mathlib.Core.Bool.{Bool, true, false, not, _&&_}
 use mathlib.Core.List.{List, [], _∷_, map}
 use lib.Dec.{ltb, eqb}
 use lib.ListN.{getD, List·getD-map}
+use Rattle.packet.specs.Packet.{test}
 use Rattle.packet.specs.Refusals.{Case, NoCase, accepted, judged, mapped}
 use Rattle.seats.specs.Record.{seatNumbers, noSuchSeat, closedSeat, lesson, withSeats, withSeat, withSequence}
 use Rattle.seats.specs.Opening.{anyCoupling, openRefusals, openSaid, openedBench, closeRefusals, closeSaid, closedBench}
@@ -15,7 +16,7 @@ use Rattle.seats.specs.declared.record.Setup.{Setup}
 use Rattle.seats.specs.declared.record.Seat.{Seat}
 use Rattle.seats.specs.declared.record.Bench.{Bench}
 use Rattle.seats.specs.declared.opening.Request.{Request}
-use Rattle.demands.specs.Apart.{named, test, pttOf, liveAboveTest, amongLive, fixed}
+use Rattle.demands.specs.Apart.{named, pttOf, liveAboveTest, amongLive, fixed}
 use Rattle.demands.proofs.Blanking.{blank, set-elsewhere, map-blank, blank-elsewhere}
 use Rattle.demands.proofs.Judged.{judged-both}
 use Rattle.demands.proofs.WithoutLessons.{low, liveSeats, lesson-flag, live-seat}

@@ -8,7 +8,7 @@ use lib.ListN.{length}
 use Rattle.base.specs.Bytes.{partOf}
 use Rattle.base.specs.Order.{missing}
 use Rattle.base.proofs.Truths.{either-way}
-use Rattle.packet.specs.Packet.{payload, payloadAt}
+use Rattle.packet.specs.Packet.{payload, payloadAt, test}
 use Rattle.packet.specs.Refusals.{NoCase, Answer, accepted, mapped}
 use Rattle.seats.specs.Record.{seatNumbers, seatOf, lesson, settled}
 use Rattle.air.specs.Air.{keyings}
@@ -17,7 +17,7 @@ use Rattle.bench.specs.Step.{packet, heard, told, step}
 use Rattle.seats.specs.declared.record.Seat.{Seat}
 use Rattle.seats.specs.declared.record.Bench.{Bench}
 use Rattle.bench.specs.declared.hearing.Hearing.{Hearing}
-use Rattle.demands.specs.Apart.{named, test, pttOf, liveAboveTest, fixed}
+use Rattle.demands.specs.Apart.{named, pttOf, liveAboveTest, fixed}
 use Rattle.demands.proofs.Exact.{accepts}
 use Rattle.demands.proofs.Judged.{judged-one}
 use Rattle.demands.proofs.WithoutLessons.{low, seat-low}

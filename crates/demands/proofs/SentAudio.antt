@@ -8,6 +8,7 @@ use lib.Dec.{ltb, eqb}
 use lib.ListN.{getD, set}
 use borrow.Author.Tests.{eqb-true}
 use Rattle.base.proofs.Truths.{and-left, and-right}
+use Rattle.packet.specs.Packet.{test}
 use Rattle.packet.specs.declared.message.Tx.{Tx}
 use Rattle.seats.specs.Record.{seatNumbers, noSuchSeat, closedSeat, seatOf, lesson}
 use Rattle.air.specs.Air.{rank, keyed, takesPart, Keying, keyingsOf, keyings, onAir, among, airOf, benchAir}
@@ -15,7 +16,7 @@ use Rattle.bench.specs.Hearing.{fieldHeard, heardSeat, heardBench, isSent}
 use Rattle.seats.specs.declared.record.Seat.{Seat}
 use Rattle.seats.specs.declared.record.Bench.{Bench}
 use Rattle.air.specs.declared.air.Air.{Air}
-use Rattle.demands.specs.Apart.{test, pttOf}
+use Rattle.demands.specs.Apart.{pttOf}
 use Rattle.demands.proofs.Blanking.{set-elsewhere}
 use Rattle.demands.proofs.WithoutLessons.{low, each-seat, lesson-flag, seat-place, live-seat, order-live}
 use Rattle.demands.proofs.LiveAir.{keyings-low, Up, seatsOf, off-air, no-keying-left}

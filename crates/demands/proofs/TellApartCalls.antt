@@ -6,8 +6,8 @@ use Rattle.packet.proofs.TellApart.{number-tells}
 use Rattle.seats.specs.Answers.{openAnswer, doneAnswer}
 use Rattle.seats.specs.declared.opening.OpenAnswer.{OpenAnswer}
 use Rattle.seats.specs.declared.opening.OpenAnswer.the-variants as opening
-use Rattle.seats.specs.declared.opening.DoneAnswer.{DoneAnswer}
-use Rattle.seats.specs.declared.opening.DoneAnswer.the-variants as closing
+use Rattle.seats.specs.declared.answer.DoneAnswer.{DoneAnswer}
+use Rattle.seats.specs.declared.answer.DoneAnswer.the-variants as closing
 use Rattle.bench.specs.Answers.{packetAnswer}
 use Rattle.bench.specs.declared.hearing.PacketAnswer.{PacketAnswer}
 use Rattle.bench.specs.declared.hearing.PacketAnswer.the-variants as hearing

@@ -3,11 +3,11 @@ use Prim.Native.Nat.{ℕ}
 use mathlib.Core.Path.{_≡_, ap, ap₂, sym, _∙_}
 use mathlib.Core.List.{List}
 use denote.Ref.{RefT, now}
-use Rattle.packet.proofs.TellApart.{tx-tells, rx-tells, written-tells}
+use Rattle.packet.proofs.TellApart.{tx-tells, rx-tells, written-tells, verdict-tells}
 use Rattle.words.specs.Text.{Written}
 use Rattle.words.proofs.Writing.{written-once}
 use Rattle.seats.specs.declared.opening.Opened.{Opened}
-use Rattle.seats.specs.declared.opening.Done.{Done}
+use Rattle.seats.specs.declared.answer.Done.{Done}
 use Rattle.seats.specs.declared.ticking.Ticked.{Ticked}
 use Rattle.bench.specs.declared.hearing.Packeted.{Packeted}
 use Rattle.bench.specs.declared.reporting.Reported.{Reported}
@@ -88,6 +88,7 @@ tight-seats = record {
   is-open = λ k a r s d e. meet;
   open-seat = λ k a r s d e p q. opened-once (told open-tells (p .0) (q .0)) (meet (p .1) (q .1));
   close = λ k a r s d e p q. done-once (told done-tells (p .0) (q .0)) (meet (p .1) (q .1));
+  seat-verdict = λ k a r s d e. told verdict-tells;
   own-id = λ k a r s d e. meet;
   received = λ k a r s d e. meet;
   transmitter = λ k a r s d e. meet;

@@ -4,6 +4,7 @@ use mathlib.Core.Path.{_≡_, refl, sym, ap, _∙_}
 use mathlib.Core.Bool.{Bool, true, false, cond}
 use mathlib.Core.List.{List, [], _∷_, _++_}
 use lib.Dec.{eqb}
+use Rattle.packet.specs.Packet.{test}
 use Rattle.packet.specs.Refusals.{Answer, accepted, refused, mapped}
 use Rattle.seats.specs.Record.{seatNumbers, lesson, freshBench, settled}
 use Rattle.bench.specs.Hearing.{packetSaid}
@@ -11,7 +12,7 @@ use Rattle.bench.specs.Reporting.{reportBytes, reportRefusals, reportSaid, repo
 use Rattle.bench.specs.Step.{Call, packet, report, Said, done, own, heard, ticked, written, told, step, after}
 use Rattle.seats.specs.declared.record.Setup.{Setup}
 use Rattle.seats.specs.declared.record.Bench.{Bench}
-use Rattle.demands.specs.Apart.{named, withoutLessons, test, pttOf, liveAboveTest, fixed, compared, Apart}
+use Rattle.demands.specs.Apart.{named, withoutLessons, pttOf, liveAboveTest, fixed, compared, Apart}
 use Rattle.demands.specs.Undisturbed.{audioSent, Undisturbed}
 use Rattle.demands.proofs.Judged.{judged-one}
 use Rattle.demands.proofs.Apart.{ran, lessons-apart}

@@ -6,7 +6,7 @@ use mathlib.Core.List.{List, [], _∷_}
 use native.Mathlib.Omega.{arith}
 use Rattle.packet.specs.Refusals.{Answer, accepted, refused, mapped}
 use Rattle.base.specs.Order.{centred, distance, late, missing}
-use Rattle.packet.specs.Packet.{payload, payloadAllowed, fieldAllowed, afterField}
+use Rattle.packet.specs.Packet.{payload, payloadAllowed, fieldAllowed, afterField, off, normal}
 use Rattle.packet.specs.Items.{allZero, itemsIn, itemAllowed, allAllowed, hasType, noTypeTwice, runAllowed, itemsAllowed, itemsOf, sqiAmong, climaxAmong, sideAmong, kept}
 use Rattle.packet.specs.Quality.{quality}
 use Rattle.packet.specs.Reading.{readerRefusals, messageWith, messageOf}
@@ -20,7 +20,6 @@ use Rattle.bench.specs.Reporting.{reportOf, reportBytes, reportRefusals, report
 use Rattle.bench.specs.Step.{Call, packet, Said, done, own, heard, ticked, written, Outcome, step, after}
 use Rattle.seats.specs.declared.record.Setup.{Setup}
 use Rattle.seats.specs.declared.record.Bench.{Bench}
-use Rattle.demands.specs.Examples.{off, normal}
 use Rattle.demands.specs.Apart.{pttOf, liveAboveTest, blotted, fixed, compared}
 use Rattle.demands.specs.LessonsSeen.{enters, voice, keys, asked}
 use Rattle.demands.specs.Undisturbed.{audioSent}

@@ -9,7 +9,7 @@ use mathlib.Core.List.{List, [], _∷_, _++_, map}
 use lib.Dec.{ltb, eqb}
 use lib.ListN.{take, drop, getD}
 use Rattle.base.specs.Bytes.{number16, bytes16, placed}
-use Rattle.packet.specs.Packet.{pttType, pttId, ptts}
+use Rattle.packet.specs.Packet.{pttType, pttId, ptts, test}
 use Rattle.packet.specs.Refusals.{Answer, accepted, mapped}
 use Rattle.seats.specs.Record.{seatNumbers, seatOf, lesson, freshBench}
 use Rattle.air.specs.Air.{rank, takesPart}
@@ -31,9 +31,6 @@ named (side standby) = 0
 unfoldable pub withoutLessons : Setup → List Call → List Call
 withoutLessons setup [] = []
 withoutLessons setup (c ∷ cs) = cond (lesson setup (named c)) (withoutLessons setup cs) (c ∷ withoutLessons setup cs)
-
-abbrev pub test : ℕ
-test = 5
 
 abbrev pub pttOf : Bench → (n : ℕ) → ℕ
 pttOf b n = seatOf (b .seats) n .heard .field .ptt

@@ -6,6 +6,7 @@ use mathlib.Core.List.{List, [], _∷_}
 use lib.ListN.{length}
 use lib.IntN.{ℤ, pos, negℤ}
 use Rattle.base.specs.Order.{late, missing}
+use Rattle.packet.specs.Packet.{off, normal, emergency}
 use Rattle.packet.specs.Quality.{quality}
 use Rattle.packet.specs.Items.{rssi}
 use Rattle.packet.specs.Refusals.{_if_, Answer, accepted, refused, judged}
@@ -31,15 +32,6 @@ pub data Example : Type 0 where
 -- The words in 01's printed packet: R2S, extension type 0167, seq=1 ts=0 ssrc=7.
 abbrev pub around : (words : List ℕ) → List ℕ
 around words = 0x90 ∷ 0x7B ∷ 0 ∷ 1 ∷ 0 ∷ 0 ∷ 0 ∷ 0 ∷ 0 ∷ 0 ∷ 0 ∷ 7 ∷ 0x01 ∷ 0x67 ∷ 0 ∷ length words / 4 ∷ words
-
-abbrev pub off : ℕ
-off = 0
-
-abbrev pub normal : ℕ
-normal = 1
-
-abbrev pub emergency : ℕ
-emergency = 4
 
 abbrev pub txSays : (ptt id : ℕ) (pm ptts : Bool) → ClimaxItem → SideItem → Tx
 txSays ptt id pm ptts c s =

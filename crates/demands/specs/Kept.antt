@@ -7,6 +7,7 @@ use mathlib.Core.Logic.{_⊎_}
 use lib.Dec.{eqb}
 use lib.ListN.{length, getD}
 use Rattle.base.specs.Bytes.{Bytes, bit}
+use Rattle.packet.specs.Packet.{off, coupling, test}
 use Rattle.seats.specs.Record.{seatNumbers, nothingHeard, closedSeat, freshBench, seatOf, lesson}
 use Rattle.seats.specs.Opening.{isTxRx, isCoupling, holdsCoupling, ownId}
 use Rattle.bench.specs.Step.{Call, opening, closing, packet, tick, report, received, transmitter, side, step, after}
@@ -18,14 +19,14 @@ use Rattle.seats.specs.declared.record.Bench.{Bench}
 -- The last field of a seat of that call type, with that ptt-id of its own.
 pub record FieldKept (isLesson pair : Bool) (call own : ℕ) (f : Field) : Type 0 where
   -- "6 and 7 are reserved and refused"
-  pub type-known : f .ptt ≤ 5
+  pub type-known : f .ptt ≤ test
   -- not "PTT on for Idle or Rxonly; Coupling PTT for TxRx; lesson seat with PTT on other than Test"
-  pub may-key : eqb (f .ptt) 0 ≡ false → isTxRx call || isCoupling call ≡ true
-  pub coupling-keys : f .ptt ≡ 2 → isCoupling call ≡ true
-  pub lesson-only-tests : isLesson ≡ true → eqb (f .ptt) 0 || eqb (f .ptt) 5 ≡ true
+  pub may-key : eqb (f .ptt) off ≡ false → isTxRx call || isCoupling call ≡ true
+  pub coupling-keys : f .ptt ≡ coupling → isCoupling call ≡ true
+  pub lesson-only-tests : isLesson ≡ true → eqb (f .ptt) off || eqb (f .ptt) test ≡ true
   -- not "ptt-id not the seat's own; with PTT off 0 also passes"
   pub own-or-none : (f .id ≡ own) ⊎ (f .id ≡ 0)
-  pub keyed-own : eqb (f .ptt) 0 ≡ false → f .id ≡ own
+  pub keyed-own : eqb (f .ptt) off ≡ false → f .id ≡ own
   -- not "main/standby item .. on a single radio; main/standby item from a lesson seat"
   pub no-item-single : pair ≡ false → f .sided ≡ false
   pub no-item-lesson : isLesson ≡ true → f .sided ≡ false

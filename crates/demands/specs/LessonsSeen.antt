@@ -5,6 +5,7 @@ use mathlib.Core.Path.{_≡_}
 use mathlib.Core.Bool.{true, false}
 use mathlib.Core.List.{List, [], _∷_}
 use lib.ListN.{replicate}
+use Rattle.packet.specs.Packet.{normal, test}
 use Rattle.packet.specs.Refusals.{Answer, accepted}
 use Rattle.packet.specs.Writing.{fromTx, encode}
 use Rattle.packet.specs.declared.message.ClimaxItem.the-variants as climax
@@ -14,8 +15,8 @@ use Rattle.seats.specs.Record.{seatNumbers, freshBench}
 use Rattle.bench.specs.Step.{Call, opening, packet, report, Said, heard, written, step, after}
 use Rattle.seats.specs.declared.record.Setup.{Setup}
 use Rattle.seats.specs.declared.opening.CallType.the-variants.{TxRx}
-use Rattle.demands.specs.Examples.{around, normal}
-use Rattle.demands.specs.Apart.{withoutLessons, test, liveAboveTest, blotted}
+use Rattle.demands.specs.Examples.{around}
+use Rattle.demands.specs.Apart.{withoutLessons, liveAboveTest, blotted}
 
 -- seat 8 is the lesson seat; a single radio, lockout, interruption
 abbrev pub lab : Setup

@@ -3,10 +3,12 @@ use Prim.Native.Nat.{ℕ}
 use mathlib.Core.Path.{_≡_, refl, ap, sym, _∙_}
 use mathlib.Core.Bool.{cond}
 use lib.Dec.{eqb}
-use Rattle.packet.specs.Refusals.{numberOf, Answer, accepted, refused, refusal}
+use Rattle.packet.specs.Refusals.{numberOf, Answer, accepted, refused, refusal, verdictOf}
 use Rattle.packet.specs.Reading.{txAnswer, rxAnswer}
 use Rattle.packet.specs.declared.refusal.Refusal.{Refusal}
 use Rattle.packet.specs.declared.refusal.Refusal.the-variants.{TooShort, WrongVersion, PaddingOrMarker, NoExtension, PayloadType, ExtensionCut, ExtensionType, WordCount, WordsCut, FieldRule, ItemRule, PayloadLength, NoSuchSeat, SeatNotOpen, SeatOpenAlready, PeriodOrMultiplier, LessonCoupling, CouplingTaken, OtherSsrc, NotAfterLast, KeyingNotAllowed, OtherId, SideNotAllowed, ElapsedTooLong, ReportAudio, BufferTooShort, UnwritableValue}
+use Rattle.packet.specs.declared.refusal.Verdict.{Verdict}
+use Rattle.packet.specs.declared.refusal.Verdict.the-variants as verdict
 use Rattle.packet.specs.Writing.{writtenAnswer}
 use Rattle.packet.specs.declared.writer.Written.{Written}
 use Rattle.packet.specs.declared.writer.Written.the-variants as written
@@ -103,3 +105,9 @@ written-tells (written.Length m) (written.Length n) e = cc
 written-tells (written.Length m) (written.Refused r) e = absurd (never m r e)
 written-tells (written.Refused r) (written.Length m) e = absurd (never m r (sym e))
 written-tells (written.Refused r) (written.Refused s) e = ap written.Refused (refusal-tells r s e)
+
+pub verdict-tells : (a b : Verdict) → verdictOf a ≡ verdictOf b → a ≡ b
+verdict-tells verdict.Fine verdict.Fine e = refl
+verdict-tells verdict.Fine (verdict.Refused r) e = absurd (never tt r e)
+verdict-tells (verdict.Refused r) verdict.Fine e = absurd (never tt r (sym e))
+verdict-tells (verdict.Refused r) (verdict.Refused s) e = ap verdict.Refused (refusal-tells r s e)

@@ -103,14 +103,35 @@ reserved Rx f = bits 16 13 2 f
 abbrev pub x : ℕ → ℕ
 x f = bits 16 15 1 f
 
--- "Reserved bits are 0. SQU is 0 in TX. PTT types: 0 off, 1 Normal, 2 Coupling, 3 Priority, 4 Emergency, 5 Test;
--- 6 and 7 are reserved and refused."
+-- "PTT types: 0 off, 1 Normal, 2 Coupling, 3 Priority, 4 Emergency, 5 Test; 6 and 7 are reserved and refused."
+abbrev pub off : ℕ
+off = 0
+
+abbrev pub normal : ℕ
+normal = 1
+
+abbrev pub coupling : ℕ
+coupling = 2
+
+abbrev pub priority : ℕ
+priority = 3
+
+abbrev pub emergency : ℕ
+emergency = 4
+
+abbrev pub test : ℕ
+test = 5
+
+abbrev pub pttAllowed : (ptt : ℕ) → Bool
+pttAllowed ptt = leb ptt test
+
+-- "Reserved bits are 0. SQU is 0 in TX."
 abbrev pub squAllowed : Direction → ℕ → Bool
 squAllowed Tx f = eqb (squ f) 0
 squAllowed Rx f = true
 
 unfoldable pub fieldAllowed : Direction → ℕ → Bool
-fieldAllowed d f = leb (pttType f) 5 && squAllowed d f && eqb (reserved d f) 0
+fieldAllowed d f = pttAllowed (pttType f) && squAllowed d f && eqb (reserved d f) 0
 
 -- the bytes of the words after the first two
 unfoldable pub afterField : List ℕ → List ℕ

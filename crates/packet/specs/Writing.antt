@@ -5,7 +5,7 @@ use mathlib.Core.List.{List, [], _∷_, _++_}
 use lib.ListN.{length, drop, replicate}
 use lib.Dec.{ltb, leb, eqb}
 use Rattle.base.specs.Bytes.{bytes8, bytes16, bytes32, placed, bit}
-use Rattle.packet.specs.Packet.{audio, r2s, audioLength}
+use Rattle.packet.specs.Packet.{audio, r2s, audioLength, pttAllowed}
 use Rattle.packet.specs.Items.{Item, someItem, sqiAllowed}
 use Rattle.packet.specs.Refusals.{Case, _if_, Answer, accepted, refused, refusal, judged}
 use Rattle.packet.specs.declared.message.SqiItem.{SqiItem}
@@ -115,7 +115,7 @@ audioWritable n = eqb n 0 || audioLength n
 
 unfoldable pub writable : Message → (audioLength : ℕ) → Bool
 writable m n =
-    leb (m .ptt) 5 && leb (m .id) 63 && sqiWritable (m .items .sqi) && climaxWritable (m .items .climax) && audioWritable n
+    pttAllowed (m .ptt) && leb (m .id) 63 && sqiWritable (m .items .sqi) && climaxWritable (m .items .climax) && audioWritable n
 
 -- "Writers 27, 26."
 unfoldable pub writerRefusals : (ext : ℕ) → Message → (audio : List ℕ) → (room : ℕ) → List Case

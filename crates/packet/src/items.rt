@@ -136,19 +136,10 @@ fn take_sqi(items: Items, b: u8) -> Scan
     let method = b % 8;
     let allowed = sqi_allowed(quality, method);
     if allowed {
-        Scan {
-            mode: Mode::Next,
-            items: Items {
-                sqi: SqiItem::Is { quality, method },
-                climax,
-                side,
-            },
-        }
+        let sqi = SqiItem::Is { quality, method };
+        at(Mode::Next, Items { sqi, climax, side })
     } else {
-        Scan {
-            mode: Mode::Broken,
-            items,
-        }
+        at(Mode::Broken, items)
     }
 }
 
@@ -159,19 +150,10 @@ fn take_climax(items: Items, b: u8) -> Scan
     let side = items.side;
     let high = b / 128 % 2;
     if high == 1 {
-        Scan {
-            mode: Mode::Next,
-            items: Items {
-                sqi,
-                climax: ClimaxItem::Is(b % 128),
-                side,
-            },
-        }
+        let climax = ClimaxItem::Is(b % 128);
+        at(Mode::Next, Items { sqi, climax, side })
     } else {
-        Scan {
-            mode: Mode::Broken,
-            items,
-        }
+        at(Mode::Broken, items)
     }
 }
 
@@ -182,30 +164,15 @@ fn take_side(items: Items, b: u8) -> Scan
     let climax = items.climax;
     let rest = b % 128;
     if rest != 0 {
-        return Scan {
-            mode: Mode::Broken,
-            items,
-        };
+        return at(Mode::Broken, items);
     }
     let high = b / 128 % 2;
     if high == 1 {
-        Scan {
-            mode: Mode::Next,
-            items: Items {
-                sqi,
-                climax,
-                side: SideItem::Standby,
-            },
-        }
+        let side = SideItem::Standby;
+        at(Mode::Next, Items { sqi, climax, side })
     } else {
-        Scan {
-            mode: Mode::Next,
-            items: Items {
-                sqi,
-                climax,
-                side: SideItem::Main,
-            },
-        }
+        let side = SideItem::Main;
+        at(Mode::Next, Items { sqi, climax, side })
     }
 }
 
@@ -259,24 +226,15 @@ fn scanned(d: Direction, start: Scan, s: &[u8]) -> Scan
 fn start(x: u16) -> Scan
     ensures { λ r. ⌜ r ≡ startOf x ⌝ }
 {
+    let none = Items {
+        sqi: SqiItem::Absent,
+        climax: ClimaxItem::Absent,
+        side: SideItem::Absent,
+    };
     if x == 0 {
-        Scan {
-            mode: Mode::Tail,
-            items: Items {
-                sqi: SqiItem::Absent,
-                climax: ClimaxItem::Absent,
-                side: SideItem::Absent,
-            },
-        }
+        at(Mode::Tail, none)
     } else {
-        Scan {
-            mode: Mode::First,
-            items: Items {
-                sqi: SqiItem::Absent,
-                climax: ClimaxItem::Absent,
-                side: SideItem::Absent,
-            },
-        }
+        at(Mode::First, none)
     }
 }
 

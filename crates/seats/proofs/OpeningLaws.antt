@@ -8,18 +8,18 @@ use native.Mathlib.Omega.{arith}
 use lib.Dec.{eqb}
 use lib.ListN.{length, drop, getD, drop-of-length-le}
 use lib.Seq.{drop-cons}
-use Rattle.packet.specs.Refusals.{accepted, refused}
+use Rattle.packet.specs.Refusals.{accepted, refused, refusal, verdictOf}
 use Rattle.packet.specs.declared.refusal.Refusal.{Refusal}
+use Rattle.packet.specs.declared.refusal.Verdict.{Verdict}
+use Rattle.packet.specs.declared.refusal.Verdict.the-variants as verdict
 use Rattle.seats.specs.Record.{noSuchSeat, seatOf, lesson, closedSeat, settled}
-use Rattle.seats.specs.Opening.{callCode, isTxRx, isCoupling, asksCoupling, timesAllowed, holdsCoupling, anyCoupling, ownId, openRefusals, openSaid, openedBench, closeRefusals, closeSaid, closedBench}
-use Rattle.seats.specs.Answers.{openAnswer, doneAnswer}
+use Rattle.seats.specs.Opening.{callCode, isTxRx, isCoupling, asksCoupling, timesAllowed, holdsCoupling, anyCoupling, ownId, openRefusals, openSaid, openedBench, closeRefusals, seatVerdict, closeSaid, closedBench}
+use Rattle.seats.specs.Answers.{openAnswer}
 use Rattle.seats.specs.declared.record.Seat.{Seat}
 use Rattle.seats.specs.declared.record.Bench.{Bench}
 use Rattle.seats.specs.declared.opening.Request.{Request}
 use Rattle.seats.specs.declared.opening.OpenAnswer.{OpenAnswer}
 use Rattle.seats.specs.declared.opening.OpenAnswer.the-variants as opening
-use Rattle.seats.specs.declared.opening.DoneAnswer.{DoneAnswer}
-use Rattle.seats.specs.declared.opening.DoneAnswer.the-variants as closing
 use Rattle.seats.proofs.RecordLaws.{recordCases}
 
 -- ---- the call type
@@ -92,19 +92,28 @@ module _ (b : Bench) (n : ℕ) (r : Request) (s : Bool) (seat : s ≡ noSuchSeat
 
 -- ---- the answer of a closing
 
-module _ (b : Bench) (n : ℕ) (s : Bool) (seat : s ≡ noSuchSeat n) where
-  pub close-13 : s ≡ true → refused 13 0 ≡ closeSaid b n
-  unfolding closeSaid closeRefusals
-  close-13 p = simp (← seat, p)
+-- ---- 13 and 14, of each call for a seat that is open
 
-  module _ (o : Bool) (opened : o ≡ seatOf (b .seats) n .opened) (p : s ≡ false) where
-    pub close-14 : o ≡ false → refused 14 0 ≡ closeSaid b n
-    unfolding closeSaid closeRefusals
-    close-14 q = simp (← seat, p, ← opened, q)
+module _ (n : ℕ) (seats : List Seat) (s : Bool) (seat : s ≡ noSuchSeat n) where
+  pub seat-13 : s ≡ true → refused 13 0 ≡ seatVerdict n seats
+  unfolding seatVerdict closeRefusals
+  seat-13 p = simp (← seat, p)
 
-    pub close-done : o ≡ true → accepted tt ≡ closeSaid b n
-    unfolding closeSaid closeRefusals
-    close-done q = simp (← seat, p, ← opened, q)
+  module _ (o : Bool) (opened : o ≡ seatOf seats n .opened) (p : s ≡ false) where
+    pub seat-14 : o ≡ false → refused 14 0 ≡ seatVerdict n seats
+    unfolding seatVerdict closeRefusals
+    seat-14 q = simp (← seat, p, ← opened, q)
+
+    pub seat-fine : o ≡ true → accepted tt ≡ seatVerdict n seats
+    unfolding seatVerdict closeRefusals
+    seat-fine q = simp (← seat, p, ← opened, q)
+
+pub seat-there : (n : ℕ) (seats : List Seat) {v : Verdict} → v ≡ verdict.Fine → verdictOf v ≡ seatVerdict n seats → noSuchSeat n ≡ false
+seat-there n seats {v} e said = by-test (noSuchSeat n) refl
+  where
+    by-test : (t : Bool) → t ≡ noSuchSeat n → noSuchSeat n ≡ false
+    by-test true q = cc (seat-13 n seats true q refl)
+    by-test false q = sym q
 
 -- ---- what an answer leaves: a seat's number where it is accepted, the bench as it was where it is refused
 
@@ -122,18 +131,21 @@ module _ (b : Bench) (n : ℕ) (r : Request) (a : OpenAnswer) (said : openAnswer
   pub opened-stays : (x : Refusal) → a ≡ opening.Refused x → b ≡ settled (openSaid b n r) b (openedBench b n r)
   opened-stays x e = rw (← said, e)
 
-module _ (b : Bench) (n : ℕ) (a : DoneAnswer) (said : doneAnswer a ≡ closeSaid b n) where
-  pub closed-seat : a ≡ closing.Done → noSuchSeat n ≡ false
-  closed-seat e = by-test (noSuchSeat n) refl
-    where
-      by-test : (t : Bool) → t ≡ noSuchSeat n → noSuchSeat n ≡ false
-      by-test true q = cc (close-13 b n true q refl)
-      by-test false q = sym q
+module _ (b : Bench) (n : ℕ) (v : Verdict) (said : verdictOf v ≡ seatVerdict n (b .seats)) where
+  as-closed : verdictOf v ≡ closeSaid b n
+  unfolding seatVerdict closeSaid
+  as-closed = said
 
-  pub closed-moves : (next : Bench) → a ≡ closing.Done → next ≡ closedBench b n → next ≡ settled (closeSaid b n) b (closedBench b n)
-  closed-moves next e m = rw (← said, e) m
+  pub close-done : v ≡ verdict.Fine → accepted tt ≡ closeSaid b n
+  close-done e = cc as-closed
 
-  pub closed-stays : (x : Refusal) → a ≡ closing.Refused x → b ≡ settled (closeSaid b n) b (closedBench b n)
-  closed-stays x e = rw (← said, e)
+  pub closed-moves : (next : Bench) → v ≡ verdict.Fine → next ≡ closedBench b n → next ≡ settled (closeSaid b n) b (closedBench b n)
+  closed-moves next e m = rw (← as-closed, e) m
 
-pub ruleset openingCases = (asks-by, own-number, own-none, coupling-found, coupling-passed, coupling-nowhere, open-13, open-15, open-16, open-17, open-18, open-done, close-13, close-14, close-done, opened-seat, opened-moves, opened-stays, closed-seat, closed-moves, closed-stays, recordCases)
+  pub close-refused : (x : Refusal) → v ≡ verdict.Refused x → refusal x ≡ closeSaid b n
+  close-refused x e = cc as-closed
+
+  pub closed-stays : (x : Refusal) → v ≡ verdict.Refused x → b ≡ settled (closeSaid b n) b (closedBench b n)
+  closed-stays x e = rw (← as-closed, e)
+
+pub ruleset openingCases = (asks-by, own-number, own-none, coupling-found, coupling-passed, coupling-nowhere, open-13, open-15, open-16, open-17, open-18, open-done, seat-13, seat-14, seat-fine, seat-there, opened-seat, opened-moves, opened-stays, close-done, closed-moves, close-refused, closed-stays, recordCases)

@@ -3,8 +3,8 @@ use Prim.Native.Nat.{ℕ}
 use Rattle.packet.specs.Refusals.{Answer, accepted, refusal}
 use Rattle.seats.specs.declared.opening.OpenAnswer.{OpenAnswer}
 use Rattle.seats.specs.declared.opening.OpenAnswer.the-variants as opening
-use Rattle.seats.specs.declared.opening.DoneAnswer.{DoneAnswer}
-use Rattle.seats.specs.declared.opening.DoneAnswer.the-variants as closing
+use Rattle.seats.specs.declared.answer.DoneAnswer.{DoneAnswer}
+use Rattle.seats.specs.declared.answer.DoneAnswer.the-variants as closing
 
 abbrev pub openAnswer : OpenAnswer → Answer ℕ
 openAnswer (opening.Opened id) = accepted id

@@ -69,6 +69,10 @@ closeRefusals n seats =
     ∷ 14 if not (seatOf seats n .opened)
     ∷ []
 
+-- the same of each call for a seat that is open
+unfoldable pub seatVerdict : (n : ℕ) → List Seat → Answer (Unit {0})
+seatVerdict n seats = judged (closeRefusals n seats) tt
+
 unfoldable pub closeSaid : Bench → (n : ℕ) → Answer (Unit {0})
 closeSaid b n = judged (closeRefusals n (b .seats)) tt
 

@@ -1,14 +1,15 @@
 // The record of the bench, and what opening, closing, time and the radio do to it.
 // Start at specs/Record.antt, then Opening.antt, Ticking.antt and Radio.antt, which say in 01's order what the public
 // functions promise; specs/Answers.antt reads their answers as 01 writes them.
+pub mod answer;
 pub mod opening;
 pub mod radio;
 pub mod record;
 pub mod ticking;
 
+pub use answer::Done;
+pub use answer::DoneAnswer;
 pub use opening::CallType;
-pub use opening::Done;
-pub use opening::DoneAnswer;
 pub use opening::OpenAnswer;
 pub use opening::Opened;
 pub use opening::Request;

@@ -1,15 +1,19 @@
 // Opening and closing a seat.
 ghost use mathlib.Core.Path.{_≡_};
 ghost use mathlib.Core.Bool.{false};
+ghost use Rattle.packet.specs.Refusals.{verdictOf};
 ghost use Rattle.seats.specs.Record.{noSuchSeat, settled};
-ghost use Rattle.seats.specs.Opening.{callCode, asksCoupling, timesAllowed, holdsCoupling, anyCoupling, ownId, openSaid, openedBench, closeSaid, closedBench};
+ghost use Rattle.seats.specs.Opening.{callCode, asksCoupling, timesAllowed, holdsCoupling, anyCoupling, ownId, openSaid, openedBench, seatVerdict, closeSaid, closedBench};
 ghost use Rattle.seats.specs.Answers.{openAnswer, doneAnswer};
+use crate::answer::Done;
+use crate::answer::DoneAnswer;
 use crate::record::Bench;
 use crate::record::Seat;
 use crate::record::is_open;
 use crate::record::lesson_seat;
 use crate::record::no_such_seat;
 use packet::Refusal;
+use packet::refusal::Verdict;
 
 // The call types, in 01's order.
 pub enum CallType {
@@ -32,17 +36,6 @@ pub enum OpenAnswer {
     // its own ptt-id
     Opened(u8),
     Refused(Refusal),
-}
-
-pub enum DoneAnswer {
-    Done,
-    Refused(Refusal),
-}
-
-// The bench after a call that answers nothing but that it was done.
-pub struct Done {
-    pub bench: Bench,
-    pub answer: DoneAnswer,
 }
 
 pub struct Opened {
@@ -70,13 +63,17 @@ pub fn close(b: Bench, n: u8) -> Done
     ensures answer { λ d. ⌜ doneAnswer (d .answer) ≡ closeSaid b n ⌝ }
     ensures bench { λ d. ⌜ d .bench ≡ settled (closeSaid b n) b (closedBench b n) ⌝ }
 {
-    let answer = close_answer(b, n);
-    match answer {
-        DoneAnswer::Done => Done {
-            bench: closed_bench(b, n),
-            answer,
+    let seats = b.seats;
+    let verdict = seat_verdict(n, seats);
+    match verdict {
+        Verdict::Refused(r) => Done {
+            bench: b,
+            answer: DoneAnswer::Refused(r),
         },
-        DoneAnswer::Refused(_) => Done { bench: b, answer },
+        Verdict::Fine => Done {
+            bench: closed_bench(b, n),
+            answer: DoneAnswer::Done,
+        },
     }
 }
 
@@ -119,18 +116,17 @@ fn opened_bench(b: Bench, n: u8, r: Request) -> Bench
     next
 }
 
-// 13, 14.
-fn close_answer(b: Bench, n: u8) -> DoneAnswer
-    ensures { λ a. ⌜ doneAnswer a ≡ closeSaid b n ⌝ }
+// 13 and 14, of each call for a seat that is open.
+pub fn seat_verdict(n: u8, seats: [Seat; 8]) -> Verdict
+    ensures { λ r. ⌜ verdictOf r ≡ seatVerdict n seats ⌝ }
 {
-    let seats = b.seats;
     if no_such_seat(n) {
-        return DoneAnswer::Refused(Refusal::NoSuchSeat);
+        return Verdict::Refused(Refusal::NoSuchSeat);
     }
     if is_open(seats, n) {
-        return DoneAnswer::Done;
+        return Verdict::Fine;
     }
-    DoneAnswer::Refused(Refusal::SeatNotOpen)
+    Verdict::Refused(Refusal::SeatNotOpen)
 }
 
 fn closed_bench(b: Bench, n: u8) -> Bench

@@ -3,8 +3,8 @@ ghost use mathlib.Core.Path.{_≡_};
 ghost use Rattle.seats.specs.Record.{settled};
 ghost use Rattle.seats.specs.Radio.{receivedBench, transmitterBench, sidedBench, sideSaid};
 ghost use Rattle.seats.specs.Answers.{doneAnswer};
-use crate::opening::Done;
-use crate::opening::DoneAnswer;
+use crate::answer::Done;
+use crate::answer::DoneAnswer;
 use crate::record::Bench;
 use packet::Refusal;
 

@@ -5,7 +5,7 @@ ghost use Prim.Native.Nat.{_<_};
 ghost use Rattle.seats.specs.Record.{settled};
 ghost use Rattle.seats.specs.Ticking.{fallsSilent, phaseAfter, isDue, aged, tickedSeat, silenceCause, tickSaid, tickSets, tickedBench};
 ghost use Rattle.seats.specs.Answers.{doneAnswer};
-use crate::opening::DoneAnswer;
+use crate::answer::DoneAnswer;
 use crate::record::Bench;
 use crate::record::Seat;
 use packet::Refusal;

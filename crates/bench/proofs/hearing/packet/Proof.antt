@@ -1,5 +1,6 @@
 use mathlib.Core.Path.{sym, _∙_}
-use Rattle.bench.proofs.PacketSteps.{seat-there, read-whole, read-said, turned, said-by-seat, said-by-reader, said-by-message, left-by-message}
+use Rattle.seats.proofs.OpeningLaws.{seat-there}
+use Rattle.bench.proofs.PacketSteps.{read-whole, read-said, turned, said-by-seat, said-by-reader, said-by-message, left-by-message}
 use borrow.Author.Needs.{needs}
 use Rattle.bench.proofs.hearing.packet.Statement.{statement}
 use Rattle.bench.proofs.hearing.packet.Tie as tie

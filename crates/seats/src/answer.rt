@@ -1,0 +1,14 @@
+// The answer of a call that tells nothing but that it was done.
+use crate::record::Bench;
+use packet::Refusal;
+
+pub enum DoneAnswer {
+    Done,
+    Refused(Refusal),
+}
+
+// The bench after such a call; as it was where it is refused.
+pub struct Done {
+    pub bench: Bench,
+    pub answer: DoneAnswer,
+}
