@@ -6,4 +6,4 @@
 // Apart: lesson seats cannot touch the tower. LessonsSeen: where they may be seen. Undisturbed: what a teacher can quote.
 // Kept: what every bench keeps. SeatAfter: what one call does to one seat. Examples: 01's examples, one table.
 // WrongBenches: five benches that the promises shut out and demand 3 alone would let pass.
-// Tight: the promise of each public function leaves one answer.
+// StepOfCode: each call of the code does what step says. Tight: what each public function promises leaves one answer.
