@@ -1,3 +1,5 @@
+pub mod OneByOne
+pub mod Taken
 pub mod Meaning
 pub mod Steps
 pub mod TellApart
