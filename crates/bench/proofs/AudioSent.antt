@@ -13,13 +13,13 @@ use Rattle.packet.specs.Packet.{payload, payloadAt}
 use Rattle.packet.specs.Refusals.{NoCase, accepted}
 use Rattle.packet.specs.Reading.{readerRefusals}
 use Rattle.packet.specs.declared.message.Direction.the-variants as direction
+use Rattle.packet.proofs.Judged.{meets-none, none-of-both}
 use Rattle.seats.specs.Record.{seatOf}
 use Rattle.seats.specs.Opening.{closeRefusals}
 use Rattle.bench.specs.Hearing.{messageIn, messageRefusals, packetRefusals, packetSaid, hearing, isSent, audioIn}
 use Rattle.bench.specs.Steps.{Whole}
 use Rattle.seats.specs.declared.record.Bench.{Bench}
 use Rattle.bench.specs.declared.hearing.Hearing.{Hearing}
-use Rattle.bench.proofs.Judging.{meets-none, none-left, none-right}
 use Rattle.bench.proofs.PacketSteps.{whole, payload-length}
 
 module _ (b : Bench) (n : ℕ) (p : List ℕ) (h : Hearing) (e : packetSaid b n p ≡ accepted h) where
@@ -32,7 +32,7 @@ module _ (b : Bench) (n : ℕ) (p : List ℕ) (h : Hearing) (e : packetSaid b n 
   accepted-whole =
       let readers = readerRefusals direction.Tx (b .setup .ext) p in
       let messages = messageRefusals (b .setup) n (seatOf (b .seats) n) (messageIn p) in
-      whole (b .setup .ext) p (none-right (closeRefusals n (b .seats)) readers (none-left (closeRefusals n (b .seats) ++ readers) messages (passed .0)))
+      whole (b .setup .ext) p (none-of-both (closeRefusals n (b .seats)) readers (none-of-both (closeRefusals n (b .seats) ++ readers) messages (passed .0) .0) .1)
 
   by-air : (sent : Bool)
       → cond (leb (cond sent (payloadAt p) 0 + cond sent (length (payload p)) 0) (length p))

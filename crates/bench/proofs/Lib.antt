@@ -1,4 +1,4 @@
-pub mod Judging
 pub mod PacketSteps
 pub mod ReportLaws
 pub mod AudioSent
+pub mod TellApart

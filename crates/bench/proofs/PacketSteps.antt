@@ -19,7 +19,7 @@ use Rattle.packet.specs.declared.refusal.Verdict.{Verdict}
 use Rattle.packet.specs.declared.refusal.Verdict.the-variants.{Fine, Refused}
 use Rattle.packet.specs.declared.reader.TxRead.{TxRead}
 use Rattle.packet.specs.declared.reader.TxRead.the-variants as tx
-use Rattle.packet.proofs.Steps.{judged-split}
+use Rattle.packet.proofs.Judged.{judged-mapped, by-verdict, meets-none, judged-split}
 use Rattle.seats.specs.Record.{noSuchSeat, seatOf, settled}
 use Rattle.seats.specs.Opening.{closeRefusals}
 use Rattle.bench.specs.Hearing.{messageIn, messageRefusals, packetRefusals, packetSaid, heardBench, hearing, isSent, audioIn, audioAt}
@@ -30,7 +30,6 @@ use Rattle.seats.specs.declared.record.Bench.{Bench}
 use Rattle.bench.specs.declared.hearing.Hearing.{Hearing}
 use Rattle.bench.specs.declared.hearing.PacketAnswer.the-variants as answer
 use Rattle.bench.specs.declared.hearing.Packeted.{Packeted}
-use Rattle.bench.proofs.Judging.{judged-mapped, by-verdict, meets-none}
 
 -- ---- what passing a test leaves
 

@@ -2,14 +2,14 @@
 use Prim.Native.Nat.{ℕ, _≤_}
 use mathlib.Core.Path.{_≡_}
 use mathlib.Core.Bool.{true, false, _&&_}
-use mathlib.Core.List.{List, [], _∷_, _++_}
+use mathlib.Core.List.{List}
 use lib.Dec.{leb, eqb}
 use lib.ListN.{length}
 use borrow.Author.Tests.{ltb-false, leb-true, not-false}
 use Rattle.base.specs.Order.{late}
 use Rattle.base.proofs.Truths.{and-left, and-right, and-rest}
 use Rattle.packet.specs.Packet.{pttType, field, fieldAllowed, squAllowed, reserved}
-use Rattle.packet.specs.Refusals.{Case, NoCase}
+use Rattle.packet.specs.Refusals.{NoCase}
 use Rattle.packet.specs.Reading.{readerRefusals, messageOf, messageWith}
 use Rattle.packet.specs.declared.message.Direction.the-variants as direction
 use Rattle.seats.specs.Record.{noSuchSeat, seatOf, lesson}
@@ -22,11 +22,8 @@ use Rattle.seats.specs.declared.record.Setup.{Setup}
 use Rattle.seats.specs.declared.record.Seat.{Seat}
 use Rattle.seats.specs.declared.record.Bench.{Bench}
 use Rattle.seats.specs.declared.opening.Request.{Request}
+use Rattle.packet.proofs.Judged.{none-of-both}
 use Rattle.demands.proofs.Passed.{Passed, passed}
-
-pub none-of-both : (cs ds : List Case) → NoCase (cs ++ ds) → NoCase cs × NoCase ds
-none-of-both [] ds none = (tt, none)
-none-of-both (c ∷ cs) ds none = let both = none-of-both cs ds (none .1) in ((none .0, both .0), both .1)
 
 pub record OpenAccepted (setup : Setup) (n : ℕ) (seats : List Seat) (r : Request) : Type 0 where
   pub is-seat : noSuchSeat n ≡ false

@@ -14,7 +14,7 @@ use Rattle.seats.specs.declared.record.Bench.{Bench}
 use Rattle.seats.specs.declared.opening.Request.{Request}
 use Rattle.demands.specs.Apart.{named}
 use Rattle.demands.proofs.Blanking.{set-hidden}
-use Rattle.demands.proofs.Judged.{judged-one}
+use Rattle.packet.proofs.Judged.{judged-one}
 use Rattle.demands.proofs.WithoutLessons.{low, none-is-lesson, lesson-flag, order-hidden}
 use Rattle.demands.proofs.LessonSeats.{Heeded, heeded}
 

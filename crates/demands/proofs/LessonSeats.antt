@@ -27,7 +27,7 @@ use Rattle.seats.specs.declared.record.Seat.{Seat}
 use Rattle.seats.specs.declared.record.Bench.{Bench}
 use Rattle.seats.specs.declared.opening.Request.{Request}
 use Rattle.demands.proofs.Blanking.{set-cases}
-use Rattle.demands.proofs.Judged.{judged-one, none-later}
+use Rattle.packet.proofs.Judged.{judged-one, none-of-both}
 use Rattle.demands.proofs.WithoutLessons.{each-seat, lesson-flag, seat-place}
 
 abbrev pub Meek : Seat → Type 0
@@ -49,7 +49,7 @@ pub record Heeded (setup : Setup) (n : ℕ) (s : Seat) (m : Tx) : Type 0 where
 pub heeded : (setup : Setup) (n : ℕ) (seats : List Seat) (p : List ℕ) → NoCase (packetRefusals setup n seats p) → Heeded setup n (seatOf seats n) (messageIn p)
 unfolding packetRefusals messageRefusals
 heeded setup n seats p h =
-    let later = none-later (readerRefusals direction.Tx (setup .ext) p) (messageRefusals setup n (seatOf seats n) (messageIn p)) (h .1 .1) in
+    let later = none-of-both (readerRefusals direction.Tx (setup .ext) p) (messageRefusals setup n (seatOf seats n) (messageIn p)) (h .1 .1) .1 in
     record { real = h .0; is-open = not-false _ (h .1 .0); may-key = later .1 .1 .0; may-side = later .1 .1 .1 .1 .0 }
 
 -- "lesson seat with PTT on other than Test"

@@ -28,7 +28,6 @@ pub mod Runs
 pub mod Blanking
 pub mod WithoutLessons
 pub mod LiveAir
-pub mod Judged
 pub mod LessonSeats
 pub mod LessonCalls
 pub mod Blotted
@@ -42,5 +41,4 @@ pub mod LessonsSeen
 pub mod Undisturbed
 pub mod Nodding
 pub mod WrongBenches
-pub mod TellApartCalls
 pub mod Tight

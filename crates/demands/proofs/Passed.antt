@@ -1,6 +1,6 @@
 -- What an accepted packet passed: the twelve tests of the reader, each by its name.
 use Prim.Native.Nat.{ℕ, _/_, _%_, _≤_}
-use mathlib.Core.Path.{_≡_, sym, _∙_}
+use mathlib.Core.Path.{_≡_}
 use mathlib.Core.Bool.{true, false, _||_}
 use mathlib.Core.List.{List}
 use native.Mathlib.Omega.{arith}
@@ -15,7 +15,7 @@ use Rattle.packet.specs.Refusals.{NoCase, accepted}
 use Rattle.packet.specs.Reading.{readerRefusals, messageOf, read}
 use Rattle.packet.specs.declared.message.Direction.{Direction}
 use Rattle.packet.specs.declared.message.Message.{Message}
-use Rattle.demands.proofs.Exact.{accepts, exact-judged}
+use Rattle.packet.proofs.Judged.{meets-none}
 
 pub record Passed (d : Direction) (ext : ℕ) (p : List ℕ) : Type 0 where
   pub head : 12 ≤ length p
@@ -59,12 +59,7 @@ passed d ext p h =
       payload-allowed = not-false _ (h .1 .1 .1 .1 .1 .1 .1 .1 .1 .1 .1 .0);
     }
 
-same-message : (a b : Message) → accepted a ≡ accepted b → a ≡ b
-same-message a b e = cc
-
 -- an accepted packet passed every test, and its message is what its bytes say
 pub accepted-passed : (d : Direction) (ext : ℕ) (p : List ℕ) (m : Message) → read d ext p ≡ accepted m → Passed d ext p × (messageOf p ≡ m)
 unfolding read
-accepted-passed d ext p m e =
-    let none = exact-judged (messageOf p) (readerRefusals d ext p) .meets-none m e in
-    (passed d ext p none, same-message (messageOf p) m (sym (accepts (messageOf p) (readerRefusals d ext p) none) ∙ e))
+accepted-passed d ext p m e = let none = meets-none (readerRefusals d ext p) (messageOf p) m e in (passed d ext p (none .0), none .1)

@@ -1,3 +1,4 @@
+pub mod Judged
 pub mod Meaning
 pub mod Steps
 pub mod TellApart

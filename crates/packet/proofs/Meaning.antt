@@ -8,7 +8,7 @@ use Rattle.base.specs.Bytes.{bits}
 use Rattle.base.proofs.Truths.{push, either-way, or-left}
 use borrow.Author.Tests.{eqb-true}
 use Rattle.packet.specs.Items.{Item, Found, found, broken, behind, allZero, itemType, itemLength, itemsIn, quality, method, sqiAllowed, delay, climaxAllowed, sideAllowed, sideOf, inTx, inRx, itemAllowed, allAllowed, hasType, noTypeTwice, someItem, runAllowed, itemsAllowed, itemsOf, listed, sqiAmong, climaxAmong, sideAmong, kept}
-use Rattle.packet.specs.Scan.{sqiFree, climaxFree, sideFree, scanAt, beginOf, withSqi, withClimax, withSide, takeSqi, takeClimax, takeSide, stepIn, stepOf, scanOf, noItems, startOf, endIn, endOf, itemsRead}
+use Rattle.packet.specs.Scan.{sqiFree, climaxFree, sideFree, scanAt, beginOf, withSqi, withClimax, withSide, takeSqi, takeClimax, takeSide, stepOf, scanOf, noItems, startOf, endOf, itemsRead}
 use Rattle.packet.specs.declared.message.Direction.{Direction}
 use Rattle.packet.specs.declared.message.Direction.the-variants.{Tx, Rx}
 use Rattle.packet.specs.declared.message.SqiItem.{SqiItem}

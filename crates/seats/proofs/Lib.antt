@@ -2,3 +2,4 @@ pub mod RecordLaws
 pub mod OpeningLaws
 pub mod TickingLaws
 pub mod RadioLaws
+pub mod TellApart
