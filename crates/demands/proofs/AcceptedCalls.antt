@@ -1,4 +1,5 @@
--- What an accepted call passed: each test of its list of refusals, by its name.
+-- What an accepted call passed: each test of its list of refusals, by its name, so that no proof depends on a place in a list. Each list
+-- is here whole, for readers and for later calls, also where no proof asks for a test yet.
 use Prim.Native.Nat.{ℕ, _≤_}
 use mathlib.Core.Path.{_≡_}
 use mathlib.Core.Bool.{true, false, _&&_}

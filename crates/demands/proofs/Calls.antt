@@ -1,7 +1,7 @@
 -- Every call in one form: a list of refusals, what it tells, and what it makes of the bench.
 use mathlib.Core.Path.{_≡_, refl, sym, ap, subst, _∙_}
 use mathlib.Core.List.{List}
-use Rattle.packet.specs.Refusals.{Case, NoCase, Answer, accepted, judged}
+use Rattle.packet.specs.Refusals.{Case, NoCase, Answer, judged}
 use Rattle.seats.specs.Record.{settled}
 use Rattle.seats.specs.Opening.{ownId, callCode, openSaid, openedBench, closeSaid, closedBench}
 use Rattle.seats.specs.Ticking.{tickSaid, tickSets, tickedBench}
@@ -67,9 +67,6 @@ step-bench b (side standby) = settled-judged (refusalsOf b (side standby)) _ _ b
 pub after-call : (P : Bench → Type 0) (b : Bench) (c : Call) → P b → (NoCase (refusalsOf b c) → P (benchAfter b c)) → P (step b c .bench)
 after-call P b c old new =
     subst P (sym (step-bench b c)) (judged-one (λ a. P (settled a b (benchAfter b c))) (refusalsOf b c) (saidBy b c) (λ n k. old) new)
-
-pub accepted-answer : (b : Bench) (c : Call) → NoCase (refusalsOf b c) → step b c .answer ≡ accepted (saidBy b c)
-accepted-answer b c none = step-answer b c ∙ accepts (saidBy b c) (refusalsOf b c) none
 
 pub accepted-bench : (b : Bench) (c : Call) → NoCase (refusalsOf b c) → step b c .bench ≡ benchAfter b c
 accepted-bench b c none = step-bench b c ∙ ap (λ (a : Answer Said). settled a b (benchAfter b c)) (accepts (saidBy b c) (refusalsOf b c) none)

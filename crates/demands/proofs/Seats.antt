@@ -1,13 +1,13 @@
 -- One seat of eight: after another was put in a place, and after all were changed alike.
-use Prim.Native.Nat.{ℕ, zero, suc, _+_, _-_, _≤_, _<_}
+use Prim.Native.Nat.{ℕ, zero, suc, _-_, _≤_}
 use mathlib.Core.Path.{_≡_, refl, ap, sym, _∙_}
 use mathlib.Core.Bool.{Bool, true, false, cond}
 use mathlib.Core.List.{List, [], _∷_, map}
 use native.Mathlib.Omega.{arith}
 use lib.Dec.{ltb, eqb}
 use lib.ListN.{length, getD, set, replicate, getD-replicate, List·getD-map}
-use lib.Seq.{getD-set-same, getD-set-other, ext-getD}
-use borrow.Author.Tests.{ltb-false, eqb-true, eqb-false, ne-eqb, le-ltb}
+use lib.Seq.{getD-set-same, getD-set-other}
+use borrow.Author.Tests.{ltb-false, eqb-true, eqb-false}
 use Rattle.base.proofs.Truths.{or-left, or-right}
 use Rattle.seats.specs.Record.{noSuchSeat, closedSeat, seatOf}
 use Rattle.seats.specs.Opening.{holdsCoupling, anyCoupling}
@@ -19,9 +19,6 @@ seat-in-range n e =
     let first : eqb n 0 ≡ false = or-left (eqb n 0) (ltb 8 n) e in
     let last : n ≤ 8 = ltb-false 8 n (or-right (eqb n 0) (ltb 8 n) e) in
     (omega (arith, eqb-false n 0 first), last)
-
-pub is-seat : (n : ℕ) → 1 ≤ n → n ≤ 8 → noSuchSeat n ≡ false
-is-seat n first last = rw (ne-eqb n 0 (λ e. omega arith)) (le-ltb 8 n last)
 
 pub seat-of-place : (ss : List Seat) (n : ℕ) → noSuchSeat n ≡ false → seatOf ss n ≡ getD ss (n - 1) closedSeat
 unfolding seatOf
@@ -83,14 +80,3 @@ none-coupling ss n e = by-case (noSuchSeat n)
     by-case : (none : Bool) → holdsCoupling (cond none closedSeat (getD ss (n - 1) closedSeat)) ≡ false
     by-case true = refl
     by-case false = none-at-place ss (n - 1) e
-
--- eight seats are the same where each is
-pub same-seats : (ss rs : List Seat) → length ss ≡ 8 → length rs ≡ 8 → ((n : ℕ) → seatOf ss n ≡ seatOf rs n) → ss ≡ rs
-same-seats ss rs eight eight′ same = ext-getD closedSeat ss rs (eight ∙ sym eight′) at-place
-  where
-    at-place : (i : ℕ) → i < length ss → getD ss i closedSeat ≡ getD rs i closedSeat
-    at-place i h =
-        let there : noSuchSeat (i + 1) ≡ false = is-seat (i + 1) (omega arith) (omega arith) in
-        let place : i + 1 - 1 ≡ i = omega arith in
-        ap (λ (k : ℕ). getD ss k closedSeat) (sym place) ∙ sym (seat-of-place ss (i + 1) there) ∙ same (i + 1)
-        ∙ seat-of-place rs (i + 1) there ∙ ap (λ (k : ℕ). getD rs k closedSeat) place
