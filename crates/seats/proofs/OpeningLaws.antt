@@ -1,13 +1,11 @@
 -- The cases of opening and closing a seat, as the answers of the code ask for them.
-use Prim.Native.Nat.{ℕ, suc, _+_, _<_, _≤_}
+use Prim.Native.Nat.{ℕ, _+_, _<_, _≤_}
 use mathlib.Core.Path.{_≡_, refl, sym, _∙_}
 use mathlib.Core.Bool.{Bool, true, false, not, _&&_, _||_}
 use mathlib.Core.List.{List}
-use native.Mathlib.Numerals.{add-one}
-use native.Mathlib.Omega.{arith}
 use lib.Dec.{eqb}
-use lib.ListN.{length, drop, getD, drop-of-length-le}
-use lib.Seq.{drop-cons}
+use lib.ListN.{length, drop, getD}
+use Rattle.base.proofs.Loops.{left-more, left-done}
 use Rattle.packet.specs.Refusals.{accepted, refused}
 use Rattle.packet.specs.declared.refusal.Refusal.{Refusal}
 use Rattle.seats.specs.Record.{noSuchSeat, seatOf, lesson, closedSeat, settled}
@@ -43,21 +41,21 @@ module _ (ss : List Seat) (i : ℕ) where
     coupling-found f = sym here ∙ left
       where
         here : anyCoupling (drop i ss) ≡ true
-        here = simp (drop-cons ss i closedSeat, ← e, f)
+        here = simp (left-more ss i refl closedSeat within, ← e, f)
 
     pub coupling-passed : t ≡ false → anyCoupling (drop (i + 1) ss) ≡ anyCoupling ss
     unfolding anyCoupling
-    coupling-passed f = rw add-one (sym here ∙ left)
+    coupling-passed f = sym here ∙ left
       where
-        here : anyCoupling (drop i ss) ≡ anyCoupling (drop (suc i) ss)
-        here = simp (drop-cons ss i closedSeat, ← e, f)
+        here : anyCoupling (drop i ss) ≡ anyCoupling (drop (i + 1) ss)
+        here = simp (left-more ss i refl closedSeat within, ← e, f)
 
   pub coupling-nowhere : length ss ≡ 8 → 8 ≤ i → anyCoupling (drop i ss) ≡ anyCoupling ss → false ≡ anyCoupling ss
   unfolding anyCoupling
   coupling-nowhere h k left = sym here ∙ left
     where
       here : anyCoupling (drop i ss) ≡ false
-      here = let over : length ss ≤ i = omega arith in simp (drop-of-length-le ss over)
+      here = simp (left-done ss i h k)
 
 -- ---- the answer of an opening; s, o, t, l, k and y are what the code's tests gave, in 01's order
 
