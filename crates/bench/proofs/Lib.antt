@@ -1,3 +1,4 @@
+pub mod Accepted
 pub mod PacketSteps
 pub mod ReportLaws
 pub mod AudioSent

@@ -24,7 +24,8 @@ use Rattle.demands.specs.ExactCalls.{refusalsOf}
 use Rattle.demands.specs.SeatAfter.{seatAfter}
 use Rattle.demands.specs.Kept.{SeatKept, count, Kept, InRange, AllInRange, KeptThroughout}
 use Rattle.demands.proofs.Calls.{benchAfter, after-call}
-use Rattle.demands.proofs.AcceptedCalls.{open-accepted, packet-accepted, side-accepted}
+use Rattle.seats.proofs.Accepted.{open-accepted, side-accepted}
+use Rattle.bench.proofs.Accepted.{packet-accepted}
 use Rattle.demands.proofs.Seats.{seat-of-eight-closed, none-coupling}
 use Rattle.demands.proofs.SeatAfter.{same-setup, as-many-seats, seat-made}
 use Rattle.demands.proofs.Order.{count-order-after, length-order-after}

@@ -1,6 +1,5 @@
 pub mod Exact
 pub mod Items
-pub mod Passed
 pub mod Inversion
 pub mod Chain
 pub mod Numbers
@@ -18,7 +17,6 @@ pub mod Calls
 pub mod ExactCalls
 pub mod ExactAll
 pub mod Seats
-pub mod AcceptedCalls
 pub mod SeatAfter
 pub mod Order
 pub mod KeptSeats

@@ -1,6 +1,7 @@
 pub mod Judged
 pub mod Meaning
 pub mod Steps
+pub mod Passed
 pub mod TellApart
 pub mod Levels
 pub mod QualityLaws

@@ -1,3 +1,4 @@
+pub mod Accepted
 pub mod RecordLaws
 pub mod OpeningLaws
 pub mod TickingLaws
