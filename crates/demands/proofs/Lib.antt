@@ -16,7 +16,6 @@ pub mod Examples
 pub mod Calls
 pub mod ExactCalls
 pub mod ExactAll
-pub mod Seats
 pub mod SeatAfter
 pub mod Order
 pub mod KeptSeats

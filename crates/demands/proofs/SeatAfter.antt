@@ -23,7 +23,7 @@ use Rattle.demands.proofs.Calls.{saidBy, benchAfter, step-answer, accep
 use Rattle.demands.proofs.ExactCalls.{refused-keeps}
 use Rattle.seats.proofs.Accepted.{open-accepted, close-accepted}
 use Rattle.bench.proofs.Accepted.{packet-accepted}
-use Rattle.demands.proofs.Seats.{seat-put, seat-changed}
+use Rattle.seats.proofs.Seats.{seat-put, seat-changed}
 
 -- ---- the set-up, and how many seats
 

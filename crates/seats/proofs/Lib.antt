@@ -1,3 +1,4 @@
+pub mod Seats
 pub mod Accepted
 pub mod RecordLaws
 pub mod OpeningLaws
