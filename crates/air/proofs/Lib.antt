@@ -1,4 +1,3 @@
-pub mod Eight
 pub mod RankLaws
 pub mod Turns
 pub mod Marking

@@ -7,41 +7,41 @@ use native.Mathlib.Omega.{arith}
 use borrow.Author.Tests.{eq-eqb, ne-eqb}
 use lib.Dec.{eqb}
 use lib.ListN.{length, getD, drop}
+use Rattle.base.proofs.Loops.{left-more, left-done, fill-more, fill-done}
 use Rattle.seats.specs.Record.{closedSeat}
 use Rattle.air.specs.Marks.{highest, seatsAt, firstAt, markAll, markIf, smallestFrom, marked, sends, sendsFrom}
 use Rattle.seats.specs.declared.record.Seat.{Seat}
-use Rattle.air.proofs.Eight.{next, done, fill-more, fill-done}
 
 module _ (ranks : List ℕ) (i top : ℕ) (eight : length ranks ≡ 8) where
   pub highest-more : (r : ℕ) → i < 8 → r ≡ max top (getD ranks i 0) → max top (highest (drop i ranks)) ≡ highest ranks
       → max r (highest (drop (i + 1) ranks)) ≡ highest ranks
   unfolding highest
-  highest-more r h e k = omega (arith, rw (next ranks i eight 0 h) at k)
+  highest-more r h e k = omega (arith, rw (left-more ranks i eight 0 h) at k)
 
   pub highest-done : 8 ≤ i → max top (highest (drop i ranks)) ≡ highest ranks → top ≡ highest ranks
   unfolding highest
-  highest-done h k = omega (arith, rw (done ranks i eight h) at k)
+  highest-done h k = omega (arith, rw (left-done ranks i eight h) at k)
 
 module _ (r : ℕ) (order ranks : List ℕ) (i : ℕ) (eight : length order ≡ 8) (as-many : length ranks ≡ 8) where
   pub first-found : i < 8 → getD ranks i 0 ≡ r → firstAt r (drop i order) (drop i ranks) ≡ firstAt r order ranks
       → getD order i 0 ≡ firstAt r order ranks
   unfolding firstAt
-  first-found h e k = simp (next order i eight 0 h, next ranks i as-many 0 h, eq-eqb _ _ e) at k
+  first-found h e k = simp (left-more order i eight 0 h, left-more ranks i as-many 0 h, eq-eqb _ _ e) at k
 
   pub first-more : i < 8 → (getD ranks i 0 ≡ r → ⊥) → firstAt r (drop i order) (drop i ranks) ≡ firstAt r order ranks
       → firstAt r (drop (i + 1) order) (drop (i + 1) ranks) ≡ firstAt r order ranks
   unfolding firstAt
-  first-more h e k = simp (next order i eight 0 h, next ranks i as-many 0 h, ne-eqb _ _ e) at k
+  first-more h e k = simp (left-more order i eight 0 h, left-more ranks i as-many 0 h, ne-eqb _ _ e) at k
 
   pub first-none : 8 ≤ i → firstAt r (drop i order) (drop i ranks) ≡ firstAt r order ranks → 0 ≡ firstAt r order ranks
   unfolding firstAt
-  first-none h k = simp (done order i eight h) at k
+  first-none h k = simp (left-done order i eight h) at k
 
   pub mark-more : (marks more : List Bool) (all : List Bool) → i < 8 → more ≡ markIf (eqb (getD ranks i 0) r) marks (getD order i 0)
       → markAll marks (seatsAt r (drop i order) (drop i ranks)) ≡ all
       → markAll more (seatsAt r (drop (i + 1) order) (drop (i + 1) ranks)) ≡ all
   unfolding markAll seatsAt
-  mark-more marks more all h e k = rw e (by-test (eqb (getD ranks i 0) r) (rw (next order i eight 0 h, next ranks i as-many 0 h) at k))
+  mark-more marks more all h e k = rw e (by-test (eqb (getD ranks i 0) r) (rw (left-more order i eight 0 h, left-more ranks i as-many 0 h) at k))
     where
       rest : List ℕ
       rest = seatsAt r (drop (i + 1) order) (drop (i + 1) ranks)
@@ -52,26 +52,26 @@ module _ (r : ℕ) (order ranks : List ℕ) (i : ℕ) (eight : length order ≡ 
 
   pub mark-done : (marks all : List Bool) → 8 ≤ i → markAll marks (seatsAt r (drop i order) (drop i ranks)) ≡ all → marks ≡ all
   unfolding markAll seatsAt
-  mark-done marks all h k = simp (done order i eight h) at k
+  mark-done marks all h k = simp (left-done order i eight h) at k
 
 module _ (marks : List Bool) (i n : ℕ) (eight : length marks ≡ 8) where
   pub smallest-found : i < 8 → getD marks i false ≡ true → smallestFrom n (drop i marks) ≡ smallestFrom 1 marks → n ≡ smallestFrom 1 marks
   unfolding smallestFrom
-  smallest-found h e k = simp (next marks i eight false h, e) at k
+  smallest-found h e k = simp (left-more marks i eight false h, e) at k
 
   pub smallest-more : i < 8 → getD marks i false ≡ false → smallestFrom n (drop i marks) ≡ smallestFrom 1 marks
       → smallestFrom (n + 1) (drop (i + 1) marks) ≡ smallestFrom 1 marks
   unfolding smallestFrom
-  smallest-more h e k = simp (next marks i eight false h, e) at k
+  smallest-more h e k = simp (left-more marks i eight false h, e) at k
 
   pub smallest-none : 8 ≤ i → smallestFrom n (drop i marks) ≡ smallestFrom 1 marks → 0 ≡ smallestFrom 1 marks
   unfolding smallestFrom
-  smallest-none h k = simp (done marks i eight h) at k
+  smallest-none h k = simp (left-done marks i eight h) at k
 
   pub marked-more : (one : ℕ) → i < 8 → one ≡ cond (getD marks i false) 1 0 → n + marked (drop i marks) ≡ marked marks
       → n + one + marked (drop (i + 1) marks) ≡ marked marks
   unfolding marked
-  marked-more one h e k = by-mark (getD marks i false) e (rw (next marks i eight false h) at k)
+  marked-more one h e k = by-mark (getD marks i false) e (rw (left-more marks i eight false h) at k)
     where
       by-mark : (m : Bool) → one ≡ cond m 1 0 → n + cond m (suc (marked (drop (i + 1) marks))) (marked (drop (i + 1) marks)) ≡ marked marks
           → n + one + marked (drop (i + 1) marks) ≡ marked marks
@@ -80,21 +80,21 @@ module _ (marks : List Bool) (i n : ℕ) (eight : length marks ≡ 8) where
 
   pub marked-done : 8 ≤ i → n + marked (drop i marks) ≡ marked marks → n ≡ marked marks
   unfolding marked
-  marked-done h k = omega (arith, rw (done marks i eight h) at k)
+  marked-done h k = omega (arith, rw (left-done marks i eight h) at k)
 
 module _ (seats : List Seat) (on : List Bool) (i : ℕ) (eight : length on ≡ 8) where
   pub sends-found : (r : Bool) → i < 8 → r ≡ sends (getD on i false) (getD seats i closedSeat) → r ≡ true
       → sendsFrom i seats (drop i on) ≡ sendsFrom 0 seats on → true ≡ sendsFrom 0 seats on
   unfolding sendsFrom
-  sends-found r h e t k = simp (next on i eight false h, sym e ∙ t) at k
+  sends-found r h e t k = simp (left-more on i eight false h, sym e ∙ t) at k
 
   pub sends-more : (r : Bool) → i < 8 → r ≡ sends (getD on i false) (getD seats i closedSeat) → r ≡ false
       → sendsFrom i seats (drop i on) ≡ sendsFrom 0 seats on → sendsFrom (i + 1) seats (drop (i + 1) on) ≡ sendsFrom 0 seats on
   unfolding sendsFrom
-  sends-more r h e t k = simp (next on i eight false h, sym e ∙ t) at k
+  sends-more r h e t k = simp (left-more on i eight false h, sym e ∙ t) at k
 
   pub sends-none : 8 ≤ i → sendsFrom i seats (drop i on) ≡ sendsFrom 0 seats on → false ≡ sendsFrom 0 seats on
   unfolding sendsFrom
-  sends-none h k = simp (done on i eight h) at k
+  sends-none h k = simp (left-done on i eight h) at k
 
 pub ruleset turns = (fill-more, fill-done, highest-more, highest-done, first-found, first-more, first-none, mark-more, mark-done, smallest-found, smallest-more, smallest-none, marked-more, marked-done, sends-found, sends-more, sends-none)

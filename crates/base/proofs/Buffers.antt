@@ -28,10 +28,6 @@ module _ (P l : List ℕ) where
   unfolding overlaid
   overlaid-full h = rw (drop-of-length-le l) (append-nil (take (length l) P))
 
-  pub overlaid-length : length (overlaid P l) ≡ length l
-  unfolding overlaid
-  overlaid-length = simp (length-append, length-take, length-drop) (omega arith)
-
   by-room : (b : Bool) → leb (length P) (length l) ≡ b → (F : List ℕ) → F ≡ take (min (length P) (length l)) P
       → take (length F) F ++ drop (length F) l ≡ overlaid P l
   by-room true p F e =

@@ -1,4 +1,5 @@
 pub mod Truths
+pub mod Places
 pub mod Parts
 pub mod Loops
 pub mod Numbers

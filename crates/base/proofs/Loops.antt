@@ -8,12 +8,20 @@ use native.Mathlib.Omega.{arith}
 use lib.ListN.{length, take, drop, getD, set, drop-of-length-le}
 use lib.Seq.{drop-cons, take-all}
 
+-- the elements that are left: the next one and the rest, or none
+module _ {A : Type 0} (l : List A) (i : ℕ) {n : ℕ} (long : length l ≡ n) where
+  pub left-more : (z : A) → i < n → drop i l ≡ getD l i z ∷ drop (i + 1) l
+  left-more z h = rw add-one (drop-cons l i z (omega arith))
+
+  pub left-done : n ≤ i → drop i l ≡ []
+  left-done h = let past : length l ≤ i = omega arith in drop-of-length-le l past
+
 module _ {A S : Type 0} (f : S → A → S) (s : S) (l : List A) (i : ℕ) where
   pub fold-more : (z : A) → i < length l → foldl f (f s (getD l i z)) (drop (i + 1) l) ≡ foldl f s (drop i l)
-  fold-more z h = rw (add-one, drop-cons l i z)
+  fold-more z h = rw (left-more l i refl z h)
 
   pub fold-done : length l ≤ i → foldl f s (drop i l) ≡ s
-  fold-done h = rw drop-of-length-le
+  fold-done h = rw (left-done l i refl h)
 
 -- A list filled from the front with g of each element of another list.
 module _ {A B : Type 0} (g : A → B) where
@@ -33,5 +41,4 @@ module _ {A B : Type 0} (g : A → B) where
 
     pub fill-done : length l ≡ n → length o ≡ n → n ≤ i → made ≡ filledTo i l o → made ≡ map g l
     fill-done hl ho h e =
-        let nothing : length o ≤ i = omega arith in
-        rw (e, take-all i l (omega arith), drop-of-length-le) (append-nil (map g l))
+        rw (e, take-all i l (omega arith), left-done o i ho h) (append-nil (map g l))

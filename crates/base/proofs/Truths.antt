@@ -1,6 +1,6 @@
 -- What a test made of others says of each of them.
 use mathlib.Core.Path.{_≡_, refl}
-use mathlib.Core.Bool.{Bool, true, false, cond, not, _&&_, _||_}
+use mathlib.Core.Bool.{Bool, true, false, cond, _&&_, _||_}
 
 pub and-left : (a b : Bool) → a && b ≡ true → a ≡ true
 and-left true b e = refl

@@ -2,7 +2,7 @@
 use Prim.Native.Nat.{ℕ, _+_, _-_, _≤_}
 use mathlib.Core.Path.{_≡_}
 use mathlib.Core.Bool.{Bool, true, false, cond}
-use mathlib.Core.List.{List, [], _++_}
+use mathlib.Core.List.{List, []}
 use native.Mathlib.Omega.{arith}
 use borrow.Author.Tests.{le-leb}
 use lib.Dec.{leb}
@@ -11,28 +11,20 @@ use lib.Seq.{take-all}
 use Rattle.base.specs.Bytes.{partOf}
 use Rattle.packet.specs.Packet.{payload, payloadAt}
 use Rattle.packet.specs.Refusals.{NoCase, accepted}
-use Rattle.packet.specs.Reading.{readerRefusals}
-use Rattle.packet.specs.declared.message.Direction.the-variants as direction
-use Rattle.seats.specs.Record.{seatOf}
-use Rattle.seats.specs.Opening.{closeRefusals}
-use Rattle.bench.specs.Hearing.{messageIn, messageRefusals, packetRefusals, packetSaid, hearing, isSent, audioIn}
-use Rattle.bench.specs.Steps.{Whole}
+use Rattle.packet.proofs.Judged.{meets-none}
+use Rattle.packet.proofs.Passed.{payload-length}
+use Rattle.bench.specs.Hearing.{messageIn, packetRefusals, packetSaid, hearing, isSent, audioIn}
 use Rattle.seats.specs.declared.record.Bench.{Bench}
 use Rattle.bench.specs.declared.hearing.Hearing.{Hearing}
-use Rattle.bench.proofs.Judging.{meets-none, none-left, none-right}
-use Rattle.bench.proofs.PacketSteps.{whole, payload-length}
+use Rattle.bench.proofs.Accepted.{packet-accepted}
 
 module _ (b : Bench) (n : ℕ) (p : List ℕ) (h : Hearing) (e : packetSaid b n p ≡ accepted h) where
   passed : NoCase (packetRefusals (b .setup) n (b .seats) p) × (hearing b n p ≡ h)
   unfolding packetSaid
   passed = meets-none (packetRefusals (b .setup) n (b .seats) p) (hearing b n p) h e
 
-  accepted-whole : Whole p
-  unfolding packetRefusals closeRefusals
-  accepted-whole =
-      let readers = readerRefusals direction.Tx (b .setup .ext) p in
-      let messages = messageRefusals (b .setup) n (seatOf (b .seats) n) (messageIn p) in
-      whole (b .setup .ext) p (none-right (closeRefusals n (b .seats)) readers (none-left (closeRefusals n (b .seats) ++ readers) messages (passed .0)))
+  in-packet : payloadAt p ≤ length p
+  in-packet = packet-accepted (b .setup) n (b .seats) p (passed .0) .was-read .words-end
 
   by-air : (sent : Bool)
       → cond (leb (cond sent (payloadAt p) 0 + cond sent (length (payload p)) 0) (length p))
@@ -40,7 +32,7 @@ module _ (b : Bench) (n : ℕ) (p : List ℕ) (h : Hearing) (e : packetSaid b n 
       ≡ cond sent (payload p) []
   unfolding payload
   by-air true =
-      let end : payloadAt p + length (payload p) ≤ length p = omega (arith, payload-length p, accepted-whole .words) in
+      let end : payloadAt p + length (payload p) ≤ length p = omega (arith, payload-length p, in-packet) in
       let all : length (payload p) ≤ payloadAt p + length (payload p) - payloadAt p = omega arith in
       simp (le-leb (payloadAt p + length (payload p)) (length p) end) (take-all (payloadAt p + length (payload p) - payloadAt p) (payload p) all)
   by-air false = simp (le-leb 0 (length p) (omega arith))

@@ -1,4 +1,5 @@
-pub mod Judging
+pub mod Accepted
 pub mod PacketSteps
 pub mod ReportLaws
 pub mod AudioSent
+pub mod TellApart

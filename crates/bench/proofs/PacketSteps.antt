@@ -1,15 +1,12 @@
 -- The packet's call in steps: 13 and 14, then the reader's 1 to 12, then 19 to 23 of the message.
 use Prim.Native.Nat.{ℕ, _+_, _-_, _≤_, _<_, min}
-use mathlib.Core.Path.{_≡_, refl, ap, sym, _∙_}
-use mathlib.Core.Bool.{Bool, true, false, cond, _||_}
+use mathlib.Core.Path.{_≡_, ap, sym, _∙_}
+use mathlib.Core.Bool.{false}
 use mathlib.Core.List.{List, [], _++_}
 use native.Mathlib.Omega.{arith}
-use borrow.Author.Tests.{le-leb, lt-leb, ltb-false, eqb-true, not-false}
-use lib.Dec.{ltb, eqb}
-use lib.ListN.{length, length-drop}
+use borrow.Author.Tests.{le-leb, lt-leb}
+use lib.ListN.{length}
 use Rattle.base.specs.Bytes.{partOf}
-use Rattle.base.proofs.Truths.{or-right}
-use Rattle.packet.specs.Packet.{wordCount, payloadAt, payloadType, payload, audioLength, payloadAllowed}
 use Rattle.packet.specs.Refusals.{Case, NoCase, Answer, accepted, refusal, verdictOf, judged, mapped, andThen}
 use Rattle.packet.specs.Reading.{readerRefusals, messageOf, asTx, read, readTx, txAnswer}
 use Rattle.packet.specs.declared.message.Direction.the-variants as direction
@@ -19,7 +16,8 @@ use Rattle.packet.specs.declared.refusal.Verdict.{Verdict}
 use Rattle.packet.specs.declared.refusal.Verdict.the-variants.{Fine, Refused}
 use Rattle.packet.specs.declared.reader.TxRead.{TxRead}
 use Rattle.packet.specs.declared.reader.TxRead.the-variants as tx
-use Rattle.packet.proofs.Steps.{judged-split}
+use Rattle.packet.proofs.Judged.{judged-mapped, by-verdict, meets-none, judged-split}
+use Rattle.packet.proofs.Passed.{Passed, passed, length-most}
 use Rattle.seats.specs.Record.{noSuchSeat, seatOf, settled}
 use Rattle.seats.specs.Opening.{closeRefusals, seatVerdict}
 use Rattle.bench.specs.Hearing.{messageIn, messageRefusals, packetRefusals, packetSaid, heardBench, hearing, isSent, audioIn, audioAt}
@@ -30,29 +28,11 @@ use Rattle.seats.specs.declared.record.Bench.{Bench}
 use Rattle.bench.specs.declared.hearing.Hearing.{Hearing}
 use Rattle.bench.specs.declared.hearing.PacketAnswer.the-variants as answer
 use Rattle.bench.specs.declared.hearing.Packeted.{Packeted}
-use Rattle.bench.proofs.Judging.{judged-mapped, by-verdict, meets-none}
 
 -- ---- what passing a test leaves
 
-pub payload-length : (p : List ℕ) → length (payload p) ≡ length p - payloadAt p
-unfolding payload
-payload-length p = simp length-drop
-
-audio-most : (n : ℕ) → audioLength n ≡ true → n ≤ 240
-audio-most n e = by-tests (eqb n 80) (eqb n 160) refl refl e
-  where
-    by-tests : (s t : Bool) → eqb n 80 ≡ s → eqb n 160 ≡ t → s || t || eqb n 240 ≡ true → n ≤ 240
-    by-tests true t p q e = omega (arith, eqb-true n 80 p)
-    by-tests false true p q e = omega (arith, eqb-true n 160 q)
-    by-tests false false p q e = omega (arith, eqb-true n 240 e)
-
-payload-most : (kind n : ℕ) → payloadAllowed kind n ≡ true → n ≤ 240
-unfolding payloadAllowed
-payload-most kind n e = by-kind (eqb kind 8) e
-  where
-    by-kind : (t : Bool) → cond t (audioLength n) (eqb n 0) ≡ true → n ≤ 240
-    by-kind true e = audio-most n e
-    by-kind false e = omega (arith, eqb-true n 0 e)
+pub whole : (ext : ℕ) (p : List ℕ) → Passed direction.Tx ext p → Whole p
+whole ext p h = record { words = h .words-end; short = length-most direction.Tx ext p h }
 
 abbrev passes : Tx → Unit {0}
 passes m = tt
@@ -68,24 +48,15 @@ module _ (ext : ℕ) (p : List ℕ) where
   read-verdict : judged readers tt ≡ mapped passes (readTx ext p)
   read-verdict = sym (judged-mapped passes readers (messageIn p)) ∙ ap (mapped passes) (sym read-judged)
 
-  pub whole : NoCase readers → Whole p
-  unfolding readerRefusals
-  whole none =
-      let behind = none .1 .1 .1 .1 .1 .1 .1 in
-      let few = ltb-false 15 (wordCount p) (or-right (eqb (wordCount p) 0) (ltb 15 (wordCount p)) (behind .0)) in
-      let sound = payload-most (payloadType p) (length (payload p)) (not-false _ (behind .1 .1 .1 .1 .0)) in
-      let end = ltb-false (length p) (payloadAt p) (behind .1 .0) in
-      record { words = end; short = omega (arith, payload-length p) }
-
   module _ {t : TxRead} {m : Tx} (f : t ≡ tx.Message m) (e : txAnswer t ≡ readTx ext p) where
-    passed : NoCase readers × (messageIn p ≡ m)
-    passed = meets-none readers (messageIn p) m (sym read-judged ∙ sym e ∙ ap txAnswer f)
+    met : NoCase readers × (messageIn p ≡ m)
+    met = meets-none readers (messageIn p) m (sym read-judged ∙ sym e ∙ ap txAnswer f)
 
     pub read-said : messageIn p ≡ m
-    read-said = passed .1
+    read-said = met .1
 
     pub read-whole : Whole p
-    read-whole = whole (passed .0)
+    read-whole = whole ext p (passed direction.Tx ext p (met .0))
 
 -- ---- the steps joined
 

@@ -18,7 +18,7 @@ use Rattle.packet.specs.declared.refusal.Refusal.{Refusal}
 use Rattle.packet.specs.declared.refusal.Verdict.{Verdict}
 use Rattle.packet.specs.declared.refusal.Verdict.the-variants.{Fine, Refused}
 use Rattle.packet.proofs.QualityLaws.{quality-most}
-use Rattle.packet.proofs.Steps.{judged-split}
+use Rattle.packet.proofs.Judged.{meets-none, judged-split}
 use Rattle.seats.specs.Record.{noSuchSeat}
 use Rattle.seats.specs.Opening.{closeRefusals, seatVerdict}
 use Rattle.air.specs.Air.{topRank, typeOf, smallest, among, leaders, keyings, airOf, benchAir}
@@ -26,7 +26,6 @@ use Rattle.bench.specs.Reporting.{idTold, squTold, sqiTold, audioBarred,
 use Rattle.bench.specs.Steps.{reportVerdict}
 use Rattle.seats.specs.declared.record.Seat.{Seat}
 use Rattle.seats.specs.declared.record.Bench.{Bench}
-use Rattle.bench.proofs.Judging.{meets-none}
 use Rattle.seats.proofs.RecordLaws.{seat-in-place}
 
 -- ---- what is told fits its bits

@@ -1,16 +1,15 @@
 -- The message of an accepted packet: its numbers fit, the writer takes it, and it says only what its direction can.
 use Prim.Native.Nat.{ℕ, zero, suc}
 use mathlib.Core.Path.{_≡_, refl, subst}
-use mathlib.Core.Bool.{Bool, true, false, cond, _&&_, _||_, false≢true}
+use mathlib.Core.Bool.{Bool, true, false, cond, _||_, false≢true}
 use mathlib.Core.List.{List}
 use native.Mathlib.Omega.{arith}
-use lib.Dec.{leb, eqb}
+use lib.Dec.{eqb}
 use lib.ListN.{length}
 use borrow.Author.Tests.{le-leb, eqb-true, ne-eqb}
 use Rattle.base.specs.Bytes.{Bytes}
-use Rattle.base.proofs.Truths.{and-left, and-right}
 use Rattle.base.proofs.Numbers.{number16-small, number32-small}
-use Rattle.packet.specs.Packet.{extensionAt, audio, r2s, audioLength, payloadType, payload, payloadAllowed, field, pttType, pttId, squ, sct, squAllowed, reserved, fieldAllowed}
+use Rattle.packet.specs.Packet.{extensionAt, audio, r2s, audioLength, payloadType, payload, payloadAllowed, field, pttType, pttId, squ, sct}
 use Rattle.packet.specs.Items.{kept}
 use Rattle.packet.specs.Refusals.{accepted}
 use Rattle.packet.specs.Reading.{messageOf, messageWith, read, asTx, asRx}
@@ -22,7 +21,7 @@ use Rattle.packet.specs.declared.message.ClimaxItem.{ClimaxItem}
 use Rattle.packet.specs.declared.message.Message.{Message}
 use Rattle.demands.specs.Plain.{itemsHere}
 use Rattle.demands.specs.RoundTrip.{Narrow}
-use Rattle.demands.proofs.Passed.{Passed, accepted-passed}
+use Rattle.packet.proofs.Passed.{Passed, accepted-passed, field-passed}
 use Rattle.demands.proofs.Inversion.{after-bytes}
 use Rattle.demands.proofs.AllowedItems.{AllStand, here-stand, sqi-writable, climax-writable, no-sqi-in-tx, no-climax-in-rx}
 use Rattle.demands.proofs.RoundTrip.{Says}
@@ -64,11 +63,11 @@ module _ (d : Direction) (ext : ℕ) (p : List ℕ) (small : Bytes p) (h : Passe
       }
 
   pub message-writable : writable (messageOf p) (length (payload p)) ≡ true
-  unfolding writable messageOf messageWith kept itemsHere fieldAllowed
+  unfolding writable messageOf messageWith kept itemsHere
   message-writable =
       let f = field p in
       simp (
-        and-left (leb (pttType f) 5) _ (and-left (leb (pttType f) 5 && squAllowed d f) _ (h .field-allowed)),
+        le-leb (pttType f) 5 (field-passed d f (h .field-allowed) .type-known),
         le-leb (pttId f) 63 (omega arith),
         sqi-writable d (itemsHere p) items-stand,
         climax-writable d (itemsHere p) items-stand,
@@ -79,12 +78,12 @@ module _ (d : Direction) (ext : ℕ) (p : List ℕ) (small : Bytes p) (h : Passe
 
 -- refusals 10 and 11 leave nothing else
 message-says : (d : Direction) (ext : ℕ) (p : List ℕ) → Bytes p → Passed d ext p → Says d (messageOf p)
-unfolding messageOf messageWith kept itemsHere fieldAllowed
+unfolding messageOf messageWith kept itemsHere
 message-says Tx ext p small h =
     let f = field p in
-    let silent = eqb-true (squ f) 0 (and-right (leb (pttType f) 5) _ (and-left (leb (pttType f) 5 && squAllowed Tx f) _ (h .field-allowed))) in
-    let unused = eqb-true (reserved Tx f) 0 (and-right (leb (pttType f) 5 && squAllowed Tx f) _ (h .field-allowed)) in
-    let single : sct f ≡ 0 = omega arith in
+    let passed = field-passed Tx f (h .field-allowed) in
+    let silent = eqb-true (squ f) 0 (passed .squ-allowed) in
+    let single : sct f ≡ 0 = omega (arith, passed .unreserved) in
     (simp silent, simp single, no-sqi-in-tx (itemsHere p) (items-stand Tx ext p small h))
 message-says Rx ext p small h = no-climax-in-rx (itemsHere p) (items-stand Rx ext p small h)
 

@@ -13,6 +13,7 @@ use Rattle.seats.specs.declared.record.Setup.{Setup}
 use Rattle.seats.specs.declared.record.Seat.{Seat}
 use Rattle.seats.specs.declared.record.Bench.{Bench}
 use Rattle.demands.specs.Apart.{named, withoutLessons, pttOf, liveAboveTest, fixed, compared, LessonsApart}
+use Rattle.demands.proofs.Runs.{after-run}
 use Rattle.demands.proofs.WithoutLessons.{low, seat-low}
 use Rattle.demands.proofs.LessonSeats.{Held, held-step, held-fresh, setup-kept}
 use Rattle.demands.proofs.BenchAir.{above-test-low}
@@ -56,16 +57,6 @@ compared-low b c i live =
 
 -- ---- whole runs
 
-held-after : (b : Bench) (cs : List Call) → Held b → Held (after b cs)
-unfolding after
-held-after b [] i = i
-held-after b (c ∷ cs) i = held-after (step b c .bench) cs (held-step b c i)
-
-setup-after : (b : Bench) (cs : List Call) → after b cs .setup ≡ b .setup
-unfolding after
-setup-after b [] = refl
-setup-after b (c ∷ cs) = setup-after (step b c .bench) cs ∙ setup-kept b c
-
 -- without its lesson seats the bench goes on as one that gets no lesson calls
 low-after : (setup : Setup) (b : Bench) (cs : List Call) → b .setup ≡ setup → Held b → low (after b cs) ≡ after (low b) (withoutLessons setup cs)
 unfolding after withoutLessons
@@ -93,10 +84,10 @@ module _ (setup : Setup) where
   fresh-setup = refl
 
   held : (run : List Call) → Held (ran setup run)
-  held run = held-after (freshBench setup) run (held-fresh setup)
+  held run = after-run Held held-step (freshBench setup) run (held-fresh setup)
 
   its-setup : (run : List Call) → ran setup run .setup ≡ setup
-  its-setup run = setup-after (freshBench setup) run ∙ fresh-setup
+  its-setup run = after-run (λ (b : Bench). b .setup ≡ setup) (λ b c e. setup-kept b c ∙ e) (freshBench setup) run fresh-setup
 
   -- whether a seat is a lesson seat, by the set-up that the bench holds
   pub its-lesson : (run : List Call) (n : ℕ) {t : Bool} → lesson setup n ≡ t → lesson (ran setup run .setup) n ≡ t

@@ -14,7 +14,8 @@ use Rattle.seats.specs.declared.record.Setup.{Setup}
 use Rattle.seats.specs.declared.record.Seat.{Seat}
 use Rattle.seats.specs.declared.record.Bench.{Bench}
 use Rattle.demands.specs.Apart.{pttOf, liveAboveTest}
-use Rattle.demands.proofs.WithoutLessons.{low, lesson-flag, seat-place, live-seat}
+use Rattle.seats.proofs.Seats.{lesson-flag, seat-of-place}
+use Rattle.demands.proofs.WithoutLessons.{low, live-seat}
 use Rattle.demands.proofs.LiveAir.{liveKeyings, keyings-low, TestAtMost, Up, air-same}
 use Rattle.demands.proofs.LessonSeats.{Held}
 
@@ -35,7 +36,7 @@ part-real healthy seats n h = by-number (noSuchSeat n) refl (and-right healthy (
 lesson-rank : (b : Bench) → Held b → (n : ℕ) → lesson (b .setup) n ≡ true → rank (pttOf b n) ≤ 1
 lesson-rank b i n hidden =
     let real = lesson-real (b .setup) n hidden in
-    subst (λ (s : Seat). rank (s .heard .field .ptt) ≤ 1) (sym (seat-place (b .seats) n real)) (i .meek (n - 1) (lesson-flag (b .setup) n real ∙ hidden) .0)
+    subst (λ (s : Seat). rank (s .heard .field .ptt) ≤ 1) (sym (seat-of-place (b .seats) n real)) (i .meek (n - 1) (lesson-flag (b .setup) n real ∙ hidden) .0)
 
 keyings-meek : (b : Bench) → Held b → (ns : List ℕ) → TestAtMost (b .setup) (keyingsOf (b .healthy) (b .seats) ns)
 unfolding keyingsOf

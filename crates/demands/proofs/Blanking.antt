@@ -41,11 +41,3 @@ module _ {A : Type 0} (d : A) where
   map-blank f e (b ∷ fs) [] = refl
   map-blank f e (true ∷ fs) (x ∷ xs) = simp (e, map-blank f e fs xs)
   map-blank f e (false ∷ fs) (x ∷ xs) = simp (map-blank f e fs xs)
-
-  -- a place of a changed list holds the new value or the old one
-  pub set-cases : (P : A → Type 0) (l : List A) (k j : ℕ) (a : A) → P (getD l j d) → (j ≡ k → P a) → P (getD (set l k a) j d)
-  set-cases P [] k j a old new = old
-  set-cases P (x ∷ xs) zero zero a old new = new refl
-  set-cases P (x ∷ xs) zero (suc j) a old new = old
-  set-cases P (x ∷ xs) (suc k) zero a old new = old
-  set-cases P (x ∷ xs) (suc k) (suc j) a old new = set-cases P xs k j a old (λ e. new (ap suc e))

@@ -1,8 +1,7 @@
 -- Every call in one form: a list of refusals, what it tells, and what it makes of the bench.
 use mathlib.Core.Path.{_≡_, refl, sym, ap, subst, _∙_}
-use mathlib.Core.Bool.{Bool, true, false, cond}
-use mathlib.Core.List.{List, [], _∷_}
-use Rattle.packet.specs.Refusals.{Case, NoCase, Answer, accepted, refused, causeOf, judged}
+use mathlib.Core.List.{List}
+use Rattle.packet.specs.Refusals.{Case, NoCase, Answer, judged}
 use Rattle.seats.specs.Record.{settled}
 use Rattle.seats.specs.Opening.{ownId, callCode, openSaid, openedBench, closeSaid, closedBench}
 use Rattle.seats.specs.Ticking.{tickSaid, tickSets, tickedBench}
@@ -12,8 +11,7 @@ use Rattle.bench.specs.Reporting.{reportSaid, reportBytes, reportedBench}
 use Rattle.bench.specs.Step.{Call, opening, closing, packet, tick, report, received, transmitter, side, Said, done, own, ticked, written, told, step}
 use Rattle.seats.specs.declared.record.Bench.{Bench}
 use Rattle.demands.specs.ExactCalls.{refusalsOf}
-use Rattle.bench.proofs.Judging.{judged-mapped}
-use Rattle.demands.proofs.Exact.{accepts}
+use Rattle.packet.proofs.Judged.{judged-both, judged-one, judged-mapped, accepts}
 
 -- what a call tells where no case of its list holds
 abbrev pub saidBy : Bench → Call → Said
@@ -40,14 +38,7 @@ benchAfter b (side standby) = sidedBench b standby
 -- the value does not matter for whether the bench moves
 settled-judged : {A B : Type 0} (cs : List Case) (a : A) (b : B) (before after : Bench)
     → settled (judged cs a) before after ≡ settled (judged cs b) before after
-settled-judged [] a b before after = refl
-settled-judged (c ∷ cs) a b before after = by-case (c .holds) (settled-judged cs a b before after)
-  where
-    by-case : (t : Bool) → settled (judged cs a) before after ≡ settled (judged cs b) before after
-        → settled (cond t (refused (c .number) (causeOf (c .number))) (judged cs a)) before after
-        ≡ settled (cond t (refused (c .number) (causeOf (c .number))) (judged cs b)) before after
-    by-case true h = refl
-    by-case false h = h
+settled-judged cs a b before after = judged-both (λ x y. settled x before after ≡ settled y before after) cs a b (λ n c. refl) (λ none. refl)
 
 pub step-answer : (b : Bench) (c : Call) → step b c .answer ≡ judged (refusalsOf b c) (saidBy b c)
 unfolding step openSaid closeSaid packetSaid tickSaid reportSaid sideSaid
@@ -72,23 +63,10 @@ step-bench b (received signals level) = refl
 step-bench b (transmitter healthy) = refl
 step-bench b (side standby) = settled-judged (refusalsOf b (side standby)) _ _ b _
 
-settled-keeps : {A : Type 0} (P : Bench → Type 0) (cs : List Case) (a : A) (before after : Bench) → P before → (NoCase cs → P after)
-    → P (settled (judged cs a) before after)
-settled-keeps P [] a before after old new = new tt
-settled-keeps P (c ∷ cs) a before after old new = by-case (c .holds) refl (settled-keeps P cs a before after old)
-  where
-    by-case : (t : Bool) → c .holds ≡ t → ((NoCase cs → P after) → P (settled (judged cs a) before after))
-        → P (settled (cond t (refused (c .number) (causeOf (c .number))) (judged cs a)) before after)
-    by-case true e later = old
-    by-case false e later = later (λ none. new (e, none))
-
 -- what holds of the bench, and of what the call makes of it where it is accepted, holds after the call
 pub after-call : (P : Bench → Type 0) (b : Bench) (c : Call) → P b → (NoCase (refusalsOf b c) → P (benchAfter b c)) → P (step b c .bench)
 after-call P b c old new =
-    subst P (sym (step-bench b c)) (settled-keeps P (refusalsOf b c) (saidBy b c) b (benchAfter b c) old new)
-
-pub accepted-answer : (b : Bench) (c : Call) → NoCase (refusalsOf b c) → step b c .answer ≡ accepted (saidBy b c)
-accepted-answer b c none = step-answer b c ∙ accepts (saidBy b c) (refusalsOf b c) none
+    subst P (sym (step-bench b c)) (judged-one (λ a. P (settled a b (benchAfter b c))) (refusalsOf b c) (saidBy b c) (λ n k. old) new)
 
 pub accepted-bench : (b : Bench) (c : Call) → NoCase (refusalsOf b c) → step b c .bench ≡ benchAfter b c
 accepted-bench b c none = step-bench b c ∙ ap (λ (a : Answer Said). settled a b (benchAfter b c)) (accepts (saidBy b c) (refusalsOf b c) none)

@@ -1,28 +1,20 @@
 -- Each refusal in exactly its case.
 use Prim.Native.Nat.{ℕ}
-use mathlib.Core.Path.{_≡_, refl, ap, sym, _∙_}
+use mathlib.Core.Path.{_≡_, refl, ap}
 use mathlib.Core.Bool.{Bool, true, false, cond}
 use mathlib.Core.List.{List, [], _∷_}
-use mathlib.Core.Logic.{_⊎_, inl, inr}
-use native.Mathlib.Omega.{arith}
-use Rattle.packet.specs.Refusals.{Case, FirstCase, NoCase, Answer, accepted, refused, causeOf, judged, mapped}
+use mathlib.Core.Logic.{inl, inr}
+use Rattle.packet.specs.Refusals.{Case, FirstCase, refused, causeOf, judged}
 use Rattle.packet.specs.Reading.{readerRefusals, messageOf, read, readTx, readRx, asTx, asRx}
 use Rattle.packet.specs.declared.message.Direction.the-variants as direction
-use Rattle.bench.proofs.Judging.{judged-mapped, meets-none}
+use Rattle.packet.proofs.Judged.{never, judged-mapped, accepts, meets-none}
 use Rattle.demands.specs.Exact.{Exact, ReadersExact}
-
-pub never : {A : Type 0} (a : A) (n c : ℕ) → accepted a ≡ refused n c → ⊥
-never a n c e = let z : _≡_ {A = ℕ} 0 1 = cc in omega arith
 
 module _ {A : Type 0} (a : A) where
   refuses : (cs : List Case) (n : ℕ) → FirstCase n cs → judged cs a ≡ refused n (causeOf n)
   refuses [] n f = absurd f
   refuses (c ∷ cs) n (inl h) = simp (h .0, h .1)
   refuses (c ∷ cs) n (inr h) = simp (h .0) (refuses cs n (h .1))
-
-  pub accepts : (cs : List Case) → NoCase cs → judged cs a ≡ accepted a
-  accepts [] h = refl
-  accepts (c ∷ cs) h = simp (h .0) (accepts cs (h .1))
 
   only-then : (cs : List Case) (n k : ℕ) → judged cs a ≡ refused n k → FirstCase n cs × (k ≡ causeOf n)
   only-then [] n k e = absurd (never a n k e)
@@ -35,7 +27,7 @@ module _ {A : Type 0} (a : A) where
 
   pub exact-judged : (cs : List Case) → Exact cs (judged cs a)
   exact-judged cs =
-      record { refuses = refuses cs; only-then = only-then cs; accepts = λ h. (a, accepts cs h); meets-none = λ b e. meets-none cs a b e .0 }
+      record { refuses = refuses cs; only-then = only-then cs; accepts = λ h. (a, accepts a cs h); meets-none = λ b e. meets-none cs a b e .0 }
 
 pub readers-exact : ReadersExact
 unfolding read readTx readRx

@@ -11,7 +11,8 @@ use Rattle.bench.specs.Step.{Call, report, Said, written, step}
 use Rattle.seats.specs.declared.record.Bench.{Bench}
 use Rattle.demands.specs.Exact.{Exact}
 use Rattle.demands.specs.ExactCalls.{refusalsOf, CallsExact}
-use Rattle.demands.proofs.Exact.{never, exact-judged}
+use Rattle.packet.proofs.Judged.{never}
+use Rattle.demands.proofs.Exact.{exact-judged}
 use Rattle.demands.proofs.Calls.{saidBy, benchAfter, step-answer, step-bench}
 
 each-call : (b : Bench) (c : Call) → Exact (refusalsOf b c) (step b c .answer)

@@ -5,14 +5,14 @@ use mathlib.Core.Bool.{Bool, true, false, cond, _&&_}
 use mathlib.Core.List.{List, [], _∷_, _++_, append-assoc}
 use native.Mathlib.Omega.{arith}
 use native.Mathlib.Nat.{div-div-eq-div-mul, div-add-mod', div-one}
-use lib.Dec.{leb, eqb}
+use lib.Dec.{eqb}
 use lib.ListN.{length, take, drop, replicate, length-take, length-drop}
 use lib.Seq.{getD-drop}
 use borrow.Author.Tests.{eqb-true, eqb-false}
 use Rattle.base.specs.Bytes.{byteAt, bytes8, bytes16, bytes32, bits, placed, bit, isSet, Bytes}
-use Rattle.base.proofs.Truths.{and-left, and-right}
+use Rattle.base.proofs.Truths.{and-left}
 use Rattle.base.proofs.Numbers.{cut, byte-back, number16-back, number32-back, number16-small}
-use Rattle.packet.specs.Packet.{csrcCount, payloadType, sequence, timestamp, ssrc, extensionAt, wordCount, wordsAt, payloadAt, payload, field, pttType, squ, pttId, pm, ptts, sct, x, reserved, squAllowed, fieldAllowed, afterField}
+use Rattle.packet.specs.Packet.{csrcCount, payloadType, sequence, timestamp, ssrc, extensionAt, wordCount, wordsAt, payloadAt, payload, field, pttType, squ, pttId, pm, ptts, sct, x, afterField}
 use Rattle.packet.specs.Items.{Item, Found, found, broken, someItem, itemsIn, itemsAllowed, runAllowed, itemsOf, listed, allZero, allAllowed, noTypeTwice}
 use Rattle.packet.specs.Reading.{messageOf, messageWith}
 use Rattle.packet.specs.Writing.{fieldOf, itemBytes}
@@ -21,7 +21,7 @@ use Rattle.packet.specs.declared.message.Direction.the-variants.{Tx, Rx}
 use Rattle.packet.specs.declared.message.Message.{Message}
 use Rattle.demands.specs.Inversion.{laid, csrcWords, Inversion}
 use Rattle.demands.specs.Plain.{itemsHere}
-use Rattle.demands.proofs.Passed.{Passed, accepted-passed}
+use Rattle.packet.proofs.Passed.{Passed, accepted-passed, FieldPassed, field-passed}
 use Rattle.demands.proofs.Items.{zeros-are, items-back}
 
 -- ---- numbers from their bits
@@ -69,12 +69,9 @@ module _ (f : ℕ) (small : f < 65536) where
   top-bits = omega arith
 
 -- the reserved bits that both directions want 0
-none-reserved : (d : Direction) (f : ℕ) → fieldAllowed d f ≡ true → f / 2 % 4 ≡ 0
-unfolding fieldAllowed
-none-reserved Tx f e =
-    let z = eqb-true (f / 2 % 8) 0 (and-right (leb (pttType f) 5 && squAllowed Tx f) (eqb (reserved Tx f) 0) e) in
-    omega arith
-none-reserved Rx f e = eqb-true (f / 2 % 4) 0 (and-right (leb (pttType f) 5 && squAllowed Rx f) (eqb (reserved Rx f) 0) e)
+none-reserved : (d : Direction) (f : ℕ) → FieldPassed d f → f / 2 % 4 ≡ 0
+none-reserved Tx f h = omega (arith, h .unreserved)
+none-reserved Rx f h = h .unreserved
 
 take-bytes : (n : ℕ) (l : List ℕ) → Bytes l → Bytes (take n l)
 take-bytes zero l h i = omega arith
@@ -144,7 +141,7 @@ module _ (d : Direction) (ext : ℕ) (p : List ℕ) (small : Bytes p) (h : Passe
   unfolding messageOf messageWith
   field-back =
       let f = field p in
-      field-parts f f-small (none-reserved d f (h .field-allowed))
+      field-parts f f-small (none-reserved d f (field-passed d f (h .field-allowed)))
       ∙ same-sum (f / 8192) (pttType f) (f / 4096 % 2) (bit (isSet (squ f))) (pttId f) (f / 32 % 2) (bit (isSet (pm f))) (f / 16 % 2) (bit (isSet (ptts f)))
       (f / 8 % 2) (bit (isSet (sct f))) (f % 2) (bit (someItem (itemsHere p)))
       (top-bits f f-small) (sym (bit-of (f / 4096))) (sym (bit-of (f / 32))) (sym (bit-of (f / 16))) (sym (bit-of (f / 8)))

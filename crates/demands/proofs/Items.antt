@@ -1,14 +1,13 @@
 -- Bytes that hold items are those items written one behind the other, and zeros.
-use Prim.Native.Nat.{ℕ, suc, _+_, _*_, _-_, _/_, _%_, _≤_, _<_}
-use mathlib.Core.Path.{_≡_, refl, ap, sym, _∙_}
-use mathlib.Core.Bool.{Bool, true, false, cond, _&&_}
+use Prim.Native.Nat.{ℕ, suc, _+_, _*_, _-_, _%_, _<_}
+use mathlib.Core.Path.{_≡_, refl, ap, _∙_}
+use mathlib.Core.Bool.{Bool, true, false, cond}
 use mathlib.Core.List.{List, [], _∷_, _++_}
 use native.Mathlib.Omega.{arith}
-use native.Mathlib.Numerals.{add-one}
 use lib.Dec.{eqb}
-use lib.ListN.{length, getD, replicate}
-use borrow.Author.Tests.{eqb-true, eqb-false}
-use Rattle.base.specs.Bytes.{byteAt, Bytes, bytes8, placed}
+use lib.ListN.{length, replicate}
+use borrow.Author.Tests.{eqb-true}
+use Rattle.base.specs.Bytes.{Bytes, placed}
 use Rattle.base.proofs.Truths.{and-left, and-right}
 use Rattle.packet.specs.Items.{Item, Found, found, broken, behind, allZero, itemType, itemLength, itemsIn}
 use Rattle.packet.specs.Writing.{itemBytes}

@@ -1,12 +1,13 @@
 -- The invariant from the start through every call.
-use Prim.Native.Nat.{ℕ, zero, suc, _-_, _%_, _<_}
+use Prim.Native.Nat.{ℕ, _-_, _%_, _<_}
 use mathlib.Core.Path.{_≡_, refl, ap, sym, _∙_, subst, subst₂}
 use mathlib.Core.Bool.{Bool, true, false, cond}
 use mathlib.Core.List.{List, [], _∷_}
 use native.Mathlib.Omega.{arith}
 use lib.Dec.{leb, eqb}
-use lib.ListN.{length, getD, set, replicate, length-set}
+use lib.ListN.{length, getD, set, length-set}
 use borrow.Author.Tests.{eqb-true}
+use Rattle.base.proofs.Places.{set-cases, all-alike}
 use Rattle.packet.specs.Refusals.{NoCase}
 use Rattle.packet.specs.declared.message.Tx.{Tx}
 use Rattle.seats.specs.Record.{closedSeat, openedSeat, freshBench, seatOf, withSeats, withSeat, withSequence}
@@ -24,8 +25,9 @@ use Rattle.demands.specs.ExactCalls.{refusalsOf}
 use Rattle.demands.specs.SeatAfter.{seatAfter}
 use Rattle.demands.specs.Kept.{SeatKept, count, Kept, InRange, AllInRange, KeptThroughout}
 use Rattle.demands.proofs.Calls.{benchAfter, after-call}
-use Rattle.demands.proofs.AcceptedCalls.{open-accepted, packet-accepted, side-accepted}
-use Rattle.demands.proofs.Seats.{seat-of-eight-closed, none-coupling}
+use Rattle.seats.proofs.Accepted.{open-accepted, side-accepted}
+use Rattle.bench.proofs.Accepted.{packet-accepted}
+use Rattle.seats.proofs.Seats.{seat-of-eight-closed, none-coupling}
 use Rattle.demands.proofs.SeatAfter.{same-setup, as-many-seats, seat-made}
 use Rattle.demands.proofs.Order.{count-order-after, length-order-after}
 use Rattle.demands.proofs.KeptSeats.{closed-seat-kept, opened-seat-kept, heard-seat-kept, ticked-seat-kept}
@@ -36,27 +38,18 @@ kept-fresh setup =
     record {
       eight-seats = refl;
       eight-sequences = refl;
-      sequences-fit = all-zero 8;
+      sequences-fit = λ i. rw (all-alike {A = ℕ} 0 8 i) (omega arith);
       order-of-eight = refl;
       order-counts = λ n. refl;
       each-seat = λ n. rw (seat-of-eight-closed n) (closed-seat-kept setup n);
       one-coupling = λ m n e f. absurd (let z : _≡_ {A = ℕ} 0 1 = cc (seat-of-eight-closed m) in omega arith);
       single-on-main = λ e. refl;
     }
-  where
-    all-zero : (k i : ℕ) → getD (replicate k 0) i 0 < 65536
-    all-zero zero i = omega arith
-    all-zero (suc k) zero = omega arith
-    all-zero (suc k) (suc i) = all-zero k i
 
 -- ---- the report sequence numbers
 
 set-fits : (l : List ℕ) (k v i : ℕ) → v < 65536 → ((i : ℕ) → getD l i 0 < 65536) → getD (set l k v) i 0 < 65536
-set-fits [] k v i small fit = fit i
-set-fits (x ∷ l) zero v zero small fit = small
-set-fits (x ∷ l) zero v (suc i) small fit = fit (suc i)
-set-fits (x ∷ l) (suc k) v zero small fit = fit 0
-set-fits (x ∷ l) (suc k) v (suc i) small fit = set-fits l k v i small (λ j. fit (suc j))
+set-fits l k v i small fit = set-cases {A = ℕ} 0 (λ n. n < 65536) l k i v (fit i) (λ e. small)
 
 wraps : (n : ℕ) → n % 65536 < 65536
 wraps n = omega arith

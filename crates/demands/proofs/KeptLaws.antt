@@ -1,4 +1,4 @@
--- What the invariant says of who may be on the air.
+-- What the invariant says of who may be on the air: for readers, and for later changes of the air. No theorem here rests on it.
 use Prim.Native.Nat.{ℕ, zero, suc, _≤_}
 use mathlib.Core.Path.{_≡_, refl, ap, _∙_}
 use mathlib.Core.Bool.{Bool, true, false, not, _&&_, _||_}

@@ -27,7 +27,8 @@ use Rattle.seats.specs.declared.opening.CallType.{CallType}
 use Rattle.seats.specs.declared.opening.CallType.the-variants.{Idle, RxOnly, TxRx, Coupling}
 use Rattle.seats.specs.declared.opening.Request.{Request}
 use Rattle.demands.specs.Kept.{FieldKept, SeatKept}
-use Rattle.demands.proofs.AcceptedCalls.{OpenAccepted, PacketAccepted, type-known}
+use Rattle.seats.proofs.Accepted.{OpenAccepted}
+use Rattle.bench.proofs.Accepted.{PacketAccepted, type-known}
 
 -- ---- the last field
 

@@ -14,8 +14,9 @@ use Rattle.seats.specs.declared.record.Bench.{Bench}
 use Rattle.seats.specs.declared.opening.Request.{Request}
 use Rattle.demands.specs.Apart.{named}
 use Rattle.demands.proofs.Blanking.{set-hidden}
-use Rattle.demands.proofs.Judged.{judged-one}
-use Rattle.demands.proofs.WithoutLessons.{low, none-is-lesson, lesson-flag, order-hidden}
+use Rattle.packet.proofs.Judged.{judged-one}
+use Rattle.seats.proofs.Seats.{lesson-flag}
+use Rattle.demands.proofs.WithoutLessons.{low, none-is-lesson, order-hidden}
 use Rattle.demands.proofs.LessonSeats.{Heeded, heeded}
 
 module _ (b : Bench) (n : ℕ) (hidden : lesson (b .setup) n ≡ true) (real : noSuchSeat n ≡ false) where

@@ -1,11 +1,11 @@
 -- What every bench of a run has: lesson seats hold off or Test and are no Coupling seats, and each seat stands in the order.
-use Prim.Native.Nat.{ℕ, zero, suc, _-_, _≤_}
+use Prim.Native.Nat.{ℕ, _-_, _≤_}
 use mathlib.Core.Path.{_≡_, refl, sym, ap, _∙_}
 use mathlib.Core.Bool.{Bool, true, false, cond, not, _&&_, _||_, true≢false, false≢true}
 use mathlib.Core.List.{List, [], _∷_, _++_, map}
 use native.Mathlib.Omega.{arith}
 use lib.Dec.{eqb, leb}
-use lib.ListN.{getD, set, replicate, List·getD-map}
+use lib.ListN.{getD, set, List·getD-map}
 use borrow.Author.Tests.{eqb-true, eq-eqb, not-false}
 use Rattle.base.proofs.Truths.{or-right}
 use Rattle.packet.specs.Refusals.{NoCase}
@@ -26,9 +26,9 @@ use Rattle.seats.specs.declared.record.Field.{Field}
 use Rattle.seats.specs.declared.record.Seat.{Seat}
 use Rattle.seats.specs.declared.record.Bench.{Bench}
 use Rattle.seats.specs.declared.opening.Request.{Request}
-use Rattle.demands.proofs.Blanking.{set-cases}
-use Rattle.demands.proofs.Judged.{judged-one, none-later}
-use Rattle.demands.proofs.WithoutLessons.{each-seat, lesson-flag, seat-place}
+use Rattle.base.proofs.Places.{set-cases, all-alike}
+use Rattle.packet.proofs.Judged.{judged-one, none-of-both}
+use Rattle.seats.proofs.Seats.{each-seat, lesson-flag, seat-of-place}
 
 abbrev pub Meek : Seat → Type 0
 Meek s = (rank (s .heard .field .ptt) ≤ 1) × (holdsCoupling s ≡ false)
@@ -49,7 +49,7 @@ pub record Heeded (setup : Setup) (n : ℕ) (s : Seat) (m : Tx) : Type 0 where
 pub heeded : (setup : Setup) (n : ℕ) (seats : List Seat) (p : List ℕ) → NoCase (packetRefusals setup n seats p) → Heeded setup n (seatOf seats n) (messageIn p)
 unfolding packetRefusals messageRefusals
 heeded setup n seats p h =
-    let later = none-later (readerRefusals direction.Tx (setup .ext) p) (messageRefusals setup n (seatOf seats n) (messageIn p)) (h .1 .1) in
+    let later = none-of-both (readerRefusals direction.Tx (setup .ext) p) (messageRefusals setup n (seatOf seats n) (messageIn p)) (h .1 .1) .1 in
     record { real = h .0; is-open = not-false _ (h .1 .0); may-key = later .1 .1 .0; may-side = later .1 .1 .1 .1 .0 }
 
 -- "lesson seat with PTT on other than Test"
@@ -149,7 +149,7 @@ held-heard b n m h i =
     }
   where
     uncoupled : getD (b .setup .lesson) (n - 1) false ≡ true → holdsCoupling (seatOf (b .seats) n) ≡ false
-    uncoupled e = rw (seat-place (b .seats) n (h .real)) (i .meek (n - 1) e .1)
+    uncoupled e = rw (seat-of-place (b .seats) n (h .real)) (i .meek (n - 1) e .1)
 
     calm : lesson (b .setup) n ≡ true → rank (m .ptt) ≤ 1
     calm e = test-at-most m (seatOf (b .seats) n .call) (rw e at (h .may-key))
@@ -183,18 +183,13 @@ held-step b (side standby) i =
 
 -- ---- the start
 
-all-closed : (n k : ℕ) → getD (replicate n closedSeat) k closedSeat ≡ closedSeat
-all-closed zero k = refl
-all-closed (suc n) zero = refl
-all-closed (suc n) (suc k) = all-closed n k
-
 all-placed : (n : ℕ) → noSuchSeat n ≡ false → among seatNumbers n ≡ true
 unfolding among
 all-placed = each-seat (λ n. among seatNumbers n ≡ true) (refl, refl, refl, refl, refl, refl, refl, refl)
 
 pub held-fresh : (setup : Setup) → Held (freshBench setup)
 unfolding freshBench
-held-fresh setup = record { meek = λ k e. rw (all-closed 8 k) meek-closed; placed = all-placed }
+held-fresh setup = record { meek = λ k e. rw (all-alike closedSeat 8 k) meek-closed; placed = all-placed }
 
 pub setup-kept : (b : Bench) (c : Call) → step b c .bench .setup ≡ b .setup
 unfolding step openSaid closeSaid packetSaid tickSaid reportSaid sideSaid openedBench closedBench withSequence withSeat withSeats heardBench tickedBench reportedBench receivedBench transmitterBench sidedBench

@@ -1,6 +1,5 @@
 pub mod Exact
 pub mod Items
-pub mod Passed
 pub mod Inversion
 pub mod Chain
 pub mod Numbers
@@ -17,8 +16,6 @@ pub mod Examples
 pub mod Calls
 pub mod ExactCalls
 pub mod ExactAll
-pub mod Seats
-pub mod AcceptedCalls
 pub mod SeatAfter
 pub mod Order
 pub mod KeptSeats
@@ -28,7 +25,6 @@ pub mod Runs
 pub mod Blanking
 pub mod WithoutLessons
 pub mod LiveAir
-pub mod Judged
 pub mod LessonSeats
 pub mod LessonCalls
 pub mod Blotted
@@ -42,6 +38,5 @@ pub mod LessonsSeen
 pub mod Undisturbed
 pub mod Nodding
 pub mod WrongBenches
-pub mod TellApartCalls
 pub mod Tight
 pub mod StepOfCode

@@ -18,8 +18,9 @@ use Rattle.seats.specs.declared.record.Bench.{Bench}
 use Rattle.seats.specs.declared.opening.Request.{Request}
 use Rattle.demands.specs.Apart.{named, pttOf, liveAboveTest, amongLive, fixed}
 use Rattle.demands.proofs.Blanking.{blank, set-elsewhere, map-blank, blank-elsewhere}
-use Rattle.demands.proofs.Judged.{judged-both}
-use Rattle.demands.proofs.WithoutLessons.{low, liveSeats, lesson-flag, live-seat}
+use Rattle.packet.proofs.Judged.{judged-both}
+use Rattle.seats.proofs.Seats.{lesson-flag}
+use Rattle.demands.proofs.WithoutLessons.{low, liveSeats, live-seat}
 use Rattle.demands.proofs.LessonSeats.{Meek, Held}
 
 -- what of the answer to a call is compared

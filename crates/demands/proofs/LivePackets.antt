@@ -18,8 +18,7 @@ use Rattle.seats.specs.declared.record.Seat.{Seat}
 use Rattle.seats.specs.declared.record.Bench.{Bench}
 use Rattle.bench.specs.declared.hearing.Hearing.{Hearing}
 use Rattle.demands.specs.Apart.{named, pttOf, liveAboveTest, fixed}
-use Rattle.demands.proofs.Exact.{accepts}
-use Rattle.demands.proofs.Judged.{judged-one}
+use Rattle.packet.proofs.Judged.{accepts, judged-one}
 use Rattle.demands.proofs.WithoutLessons.{low, seat-low}
 use Rattle.demands.proofs.LiveAir.{Up, lesson-off-air}
 use Rattle.demands.proofs.LessonSeats.{Held, Heeded, heeded, held-heard}

@@ -28,7 +28,8 @@ use Rattle.demands.specs.Apart.{liveAboveTest, blotted, fixed}
 use Rattle.demands.proofs.Blanking.{set-elsewhere}
 use Rattle.demands.proofs.Written.{itemsFor, afterFieldOf}
 use Rattle.demands.proofs.Blotted.{calm, blotted-calm}
-use Rattle.demands.proofs.WithoutLessons.{low, lesson-flag, seat-low, sequence-low}
+use Rattle.seats.proofs.Seats.{lesson-flag}
+use Rattle.demands.proofs.WithoutLessons.{low, seat-low, sequence-low}
 use Rattle.demands.proofs.LessonSeats.{Held}
 use Rattle.demands.proofs.BenchAir.{up-is, air-low}
 use Rattle.demands.proofs.LiveCalls.{Match, match-judged}

@@ -1,19 +1,17 @@
--- The order of the keyings stays a permutation of the seats, and what that says.
-use Prim.Native.Nat.{ℕ, zero, suc, _+_, _≤_}
+-- A keying that begins moves a seat in the order of keyings; each seat stays in it as often as it was.
+use Prim.Native.Nat.{ℕ, suc, _+_}
 use mathlib.Core.Path.{_≡_, refl, ap, sym, _∙_}
-use mathlib.Core.Bool.{Bool, true, false, cond, not, _||_}
+use mathlib.Core.Bool.{Bool, true, false, cond, _||_}
 use mathlib.Core.List.{List, [], _∷_, _++_}
 use native.Mathlib.Omega.{arith}
 use lib.Dec.{ltb, eqb}
 use lib.ListN.{length, length-append}
-use borrow.Author.Tests.{eqb-true, lt-ltb, le-ltb, eq-eqb, ne-eqb}
+use borrow.Author.Tests.{eqb-true, lt-ltb}
 use Rattle.base.specs.Bytes.{bit}
-use Rattle.seats.specs.Record.{seatNumbers, noSuchSeat}
 use Rattle.air.specs.Air.{among}
 use Rattle.air.specs.Order.{begins, toLast, orderAfter}
 use Rattle.seats.specs.declared.record.Field.{Field}
-use Rattle.seats.specs.declared.record.Bench.{Bench}
-use Rattle.demands.specs.Kept.{count, Kept}
+use Rattle.demands.specs.Kept.{count}
 
 -- ---- moving a number behind the others
 
@@ -69,61 +67,3 @@ among-counted (m ∷ l) n = by-case (eqb m n) (among-counted l n)
     by-case : (t : Bool) → among l n ≡ ltb 0 (count n l) → t || among l n ≡ ltb 0 (bit t + count n l)
     by-case true rest = sym (lt-ltb 0 (1 + count n l) (omega arith))
     by-case false rest = let same : count n l ≡ 0 + count n l = omega arith in rest ∙ ap (ltb 0) same
-
-differs : (i m : ℕ) → i ≤ 8 → 9 ≤ m → bit (eqb i m) ≡ 0
-differs i m h k = ap bit (ne-eqb i m (λ e. omega arith))
-
-past-eight : (m : ℕ) → 9 ≤ m → count m seatNumbers ≡ bit (not (noSuchSeat m))
-unfolding count
-past-eight m h =
-    simp (
-      differs 1 m (omega arith) h,
-      differs 2 m (omega arith) h,
-      differs 3 m (omega arith) h,
-      differs 4 m (omega arith) h,
-      differs 5 m (omega arith) h,
-      differs 6 m (omega arith) h,
-      differs 7 m (omega arith) h,
-      differs 8 m (omega arith) h,
-      ne-eqb m 0 (λ e. omega arith),
-      lt-ltb 8 m h,
-    )
-
-pub counted-seats : (n : ℕ) → count n seatNumbers ≡ bit (not (noSuchSeat n))
-unfolding count
-counted-seats zero = refl
-counted-seats (suc zero) = refl
-counted-seats (suc (suc zero)) = refl
-counted-seats (suc (suc (suc zero))) = refl
-counted-seats (suc (suc (suc (suc zero)))) = refl
-counted-seats (suc (suc (suc (suc (suc zero))))) = refl
-counted-seats (suc (suc (suc (suc (suc (suc zero)))))) = refl
-counted-seats (suc (suc (suc (suc (suc (suc (suc zero))))))) = refl
-counted-seats (suc (suc (suc (suc (suc (suc (suc (suc zero)))))))) = refl
-counted-seats (suc (suc (suc (suc (suc (suc (suc (suc (suc n))))))))) = past-eight (suc (suc (suc (suc (suc (suc (suc (suc (suc n))))))))) (omega arith)
-
--- ---- the order of a kept bench
-
-module _ (b : Bench) (kept : Kept b) where
-  -- each seat stands in it once, and nothing else does
-  pub order-once : (n : ℕ) → count n (b .order) ≡ bit (not (noSuchSeat n))
-  order-once n = kept .order-counts n ∙ counted-seats n
-
-  pub order-among : (n : ℕ) → among (b .order) n ≡ not (noSuchSeat n)
-  order-among n = among-counted (b .order) n ∙ ap (ltb 0) (order-once n) ∙ by-case (noSuchSeat n)
-    where
-      by-case : (t : Bool) → ltb 0 (bit (not t)) ≡ not t
-      by-case true = refl
-      by-case false = refl
-
-  pub order-no-double : (xs ys : List ℕ) (n : ℕ) → b .order ≡ xs ++ (n ∷ ys) → (among xs n ≡ false) × (among ys n ≡ false)
-  unfolding count
-  order-no-double xs ys n e =
-      let once : count n (b .order) ≤ 1 = at-most-once (noSuchSeat n) (order-once n) in
-      let all : count n (b .order) ≡ count n xs + (bit (eqb n n) + count n ys) = ap (count n) e ∙ count-append n xs (n ∷ ys) in
-      let itself : bit (eqb n n) ≡ 1 = ap bit (eq-eqb n n refl) in
-      (among-counted xs n ∙ le-ltb 0 (count n xs) (omega arith), among-counted ys n ∙ le-ltb 0 (count n ys) (omega arith))
-    where
-      at-most-once : (t : Bool) → count n (b .order) ≡ bit (not t) → count n (b .order) ≤ 1
-      at-most-once true h = omega arith
-      at-most-once false h = omega arith

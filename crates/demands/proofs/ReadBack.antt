@@ -2,7 +2,7 @@
 use Prim.Native.Nat.{ℕ, _+_, _*_, _≤_}
 use mathlib.Core.Path.{_≡_, refl, ap, _∙_}
 use mathlib.Core.Bool.{true, not, _||_}
-use mathlib.Core.List.{List, [], _∷_}
+use mathlib.Core.List.{List}
 use native.Mathlib.Omega.{arith}
 use lib.ListN.{length}
 use lib.Dec.{ltb, eqb}
@@ -10,7 +10,7 @@ use borrow.Author.Tests.{le-ltb, eq-eqb, ne-eqb}
 use Rattle.base.specs.Bytes.{isSet}
 use Rattle.packet.specs.Packet.{x, fieldAllowed, payloadAllowed, afterField, pttType, squ, pttId, pm, ptts, sct}
 use Rattle.packet.specs.Items.{itemsAllowed, itemsOf, kept}
-use Rattle.packet.specs.Refusals.{Case, accepted, judged, NoCase}
+use Rattle.packet.specs.Refusals.{NoCase}
 use Rattle.packet.specs.Reading.{readerRefusals, messageOf, messageWith}
 use Rattle.packet.specs.declared.message.Direction.{Direction}
 use Rattle.demands.proofs.Chain.{_and_}

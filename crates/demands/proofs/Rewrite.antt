@@ -15,8 +15,8 @@ use Rattle.packet.specs.declared.message.Message.{Message}
 use Rattle.demands.specs.Plain.{itemsHere, Plain}
 use Rattle.demands.specs.Inversion.{laid, csrcWords}
 use Rattle.demands.specs.Rewrite.{Rewritten, Rewrite, RewriteTx, RewriteRx}
-use Rattle.demands.proofs.Exact.{never}
-use Rattle.demands.proofs.Passed.{Passed, accepted-passed}
+use Rattle.packet.proofs.Judged.{never}
+use Rattle.packet.proofs.Passed.{Passed, accepted-passed}
 use Rattle.demands.proofs.Inversion.{laid-out}
 use Rattle.demands.proofs.AllowedItems.{rising-are-kept}
 use Rattle.demands.proofs.Written.{itemsFor}

@@ -21,8 +21,9 @@ use Rattle.demands.specs.SeatAfter.{seatAfter, wasAccepted, acceptedCall
 use Rattle.demands.proofs.Exact.{exact-judged}
 use Rattle.demands.proofs.Calls.{saidBy, benchAfter, step-answer, accepted-bench, after-call}
 use Rattle.demands.proofs.ExactCalls.{refused-keeps}
-use Rattle.demands.proofs.AcceptedCalls.{open-accepted, close-accepted, packet-accepted}
-use Rattle.demands.proofs.Seats.{seat-put, seat-changed}
+use Rattle.seats.proofs.Accepted.{open-accepted, close-accepted}
+use Rattle.bench.proofs.Accepted.{packet-accepted}
+use Rattle.seats.proofs.Seats.{seat-put, seat-changed}
 
 -- ---- the set-up, and how many seats
 

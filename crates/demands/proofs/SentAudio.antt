@@ -18,7 +18,8 @@ use Rattle.seats.specs.declared.record.Bench.{Bench}
 use Rattle.air.specs.declared.air.Air.{Air}
 use Rattle.demands.specs.Apart.{pttOf}
 use Rattle.demands.proofs.Blanking.{set-elsewhere}
-use Rattle.demands.proofs.WithoutLessons.{low, each-seat, lesson-flag, seat-place, live-seat, order-live}
+use Rattle.seats.proofs.Seats.{each-seat, lesson-flag, seat-of-place}
+use Rattle.demands.proofs.WithoutLessons.{low, live-seat, order-live}
 use Rattle.demands.proofs.LiveAir.{keyings-low, Up, seatsOf, off-air, no-keying-left}
 use Rattle.demands.proofs.LessonSeats.{Held, Heeded, held-heard}
 use Rattle.demands.proofs.BenchAir.{up-seat, air-low}
@@ -34,8 +35,8 @@ pub seat-heard : (b : Bench) (n : ℕ) (m : Tx) → Heeded (b .setup) n (seatOf 
     → seatOf (heardBench b n m .seats) n ≡ heardSeat (seatOf (b .seats) n) m
 unfolding heardBench
 seat-heard b n m h =
-    seat-place (set (b .seats) (n - 1) (heardSeat (seatOf (b .seats) n) m)) n (h .real)
-    ∙ put-open (b .seats) (n - 1) (heardSeat (seatOf (b .seats) n) m) (ap (λ (s : Seat). s .opened) (sym (seat-place (b .seats) n (h .real))) ∙ h .is-open)
+    seat-of-place (set (b .seats) (n - 1) (heardSeat (seatOf (b .seats) n) m)) n (h .real)
+    ∙ put-open (b .seats) (n - 1) (heardSeat (seatOf (b .seats) n) m) (ap (λ (s : Seat). s .opened) (sym (seat-of-place (b .seats) n (h .real))) ∙ h .is-open)
 
 pub heard-low : (b : Bench) (n : ℕ) (m : Tx) → lesson (b .setup) n ≡ false → noSuchSeat n ≡ false → heardBench (low b) n m ≡ low (heardBench b n m)
 unfolding heardBench low

@@ -15,7 +15,7 @@ use Rattle.bench.specs.declared.hearing.Hearing.{Hearing}
 use Rattle.seats.specs.declared.record.Bench.{Bench}
 use Rattle.seats.specs.declared.ticking.SeatSets.{SeatSets}
 use Rattle.demands.specs.StepOfCode.{did, heardWith, StepOfCode}
-use Rattle.demands.proofs.Judged.{judged-one}
+use Rattle.packet.proofs.Judged.{judged-one}
 
 -- the audio handed out is that of the answer
 with-audio : (p sound : List ℕ) (answer said : Answer Hearing) → answer ≡ said → sound ≡ audioIn answer p

@@ -12,7 +12,8 @@ use Rattle.seats.specs.declared.ticking.Ticked.{Ticked}
 use Rattle.bench.specs.declared.hearing.Packeted.{Packeted}
 use Rattle.bench.specs.declared.reporting.Reported.{Reported}
 use Rattle.demands.specs.Tight.{TightBase, TightPacket, TightSeats, TightAir, TightBench, TightWords, TightShow, Tight}
-use Rattle.demands.proofs.TellApartCalls.{open-tells, done-tells, packet-tells}
+use Rattle.seats.proofs.TellApart.{open-tells, done-tells}
+use Rattle.bench.proofs.TellApart.{packet-tells}
 
 -- the promise is an equation for the result
 meet : {A : Type 0} {x y z : A} → x ≡ z → y ≡ z → x ≡ y

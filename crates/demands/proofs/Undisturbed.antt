@@ -14,7 +14,7 @@ use Rattle.seats.specs.declared.record.Setup.{Setup}
 use Rattle.seats.specs.declared.record.Bench.{Bench}
 use Rattle.demands.specs.Apart.{named, withoutLessons, pttOf, liveAboveTest, fixed, compared, Apart}
 use Rattle.demands.specs.Undisturbed.{audioSent, Undisturbed}
-use Rattle.demands.proofs.Judged.{judged-one}
+use Rattle.packet.proofs.Judged.{judged-one}
 use Rattle.demands.proofs.Apart.{ran, lessons-apart}
 use Rattle.demands.proofs.LiveReports.{above-reported}
 

@@ -1,19 +1,18 @@
 -- The bench without its lesson seats: each closed, its report sequence 0, and out of the order of keyings.
-use Prim.Native.Nat.{ℕ, zero, suc, _-_, _<_}
+use Prim.Native.Nat.{ℕ, _-_}
 use mathlib.Core.Path.{_≡_, refl, sym, ap, _∙_}
-use mathlib.Core.Bool.{Bool, true, false, cond, true≢false, false≢true}
+use mathlib.Core.Bool.{Bool, true, false, cond, false≢true}
 use mathlib.Core.List.{List, [], _∷_, _++_, append-nil}
-use native.Mathlib.Omega.{arith}
-use lib.Dec.{eqb, ltb}
+use lib.Dec.{eqb}
 use lib.ListN.{getD}
-use borrow.Author.Tests.{eqb-true, ltb-false}
-use Rattle.base.proofs.Truths.{or-right}
+use borrow.Author.Tests.{eqb-true}
 use Rattle.seats.specs.Record.{noSuchSeat, closedSeat, seatOf, lesson}
 use Rattle.air.specs.Order.{toLast, begins, orderAfter}
 use Rattle.seats.specs.declared.record.Setup.{Setup}
 use Rattle.seats.specs.declared.record.Field.{Field}
 use Rattle.seats.specs.declared.record.Seat.{Seat}
 use Rattle.seats.specs.declared.record.Bench.{Bench}
+use Rattle.seats.proofs.Seats.{lesson-flag, seat-of-place}
 use Rattle.demands.proofs.Blanking.{blank, blank-elsewhere}
 
 unfoldable pub liveOrder : Setup → List ℕ → List ℕ
@@ -38,35 +37,10 @@ low b =
 
 -- ---- seats
 
--- what holds of 1 to 8 holds of every seat
-pub each-seat : (P : ℕ → Type 0) → P 1 × P 2 × P 3 × P 4 × P 5 × P 6 × P 7 × P 8 → (n : ℕ) → noSuchSeat n ≡ false → P n
-each-seat P h zero real = absurd (true≢false real)
-each-seat P h (suc zero) real = h .0
-each-seat P h (suc (suc zero)) real = h .1
-each-seat P h (suc (suc (suc zero))) real = h .2
-each-seat P h (suc (suc (suc (suc zero)))) real = h .3
-each-seat P h (suc (suc (suc (suc (suc zero))))) real = h .4
-each-seat P h (suc (suc (suc (suc (suc (suc zero)))))) real = h .5
-each-seat P h (suc (suc (suc (suc (suc (suc (suc zero))))))) real = h .6
-each-seat P h (suc (suc (suc (suc (suc (suc (suc (suc zero)))))))) real = h .7
-each-seat P h (suc (suc (suc (suc (suc (suc (suc (suc (suc n))))))))) real = past (suc (suc (suc (suc (suc (suc (suc (suc (suc n))))))))) real (omega arith)
-  where
-    past : (k : ℕ) → noSuchSeat k ≡ false → 8 < k → P (suc (suc (suc (suc (suc (suc (suc (suc (suc n)))))))))
-    past k e far = absurd (omega (arith, ltb-false 8 k (or-right (eqb k 0) (ltb 8 k) e)))
-
 -- 0, where a call names no seat
 pub none-is-lesson : (setup : Setup) → lesson setup 0 ≡ false
 unfolding lesson
 none-is-lesson setup = refl
-
--- a seat's flag in the set-up
-pub lesson-flag : (setup : Setup) (n : ℕ) → noSuchSeat n ≡ false → getD (setup .lesson) (n - 1) false ≡ lesson setup n
-unfolding lesson
-lesson-flag setup n real = rw real
-
-pub seat-place : (seats : List Seat) (n : ℕ) → noSuchSeat n ≡ false → seatOf seats n ≡ getD seats (n - 1) closedSeat
-unfolding seatOf
-seat-place seats n real = rw real
 
 pub live-seat : (setup : Setup) (seats : List Seat) (n : ℕ) → lesson setup n ≡ false → seatOf (liveSeats setup seats) n ≡ seatOf seats n
 live-seat setup seats n live = by-number (noSuchSeat n) refl
@@ -74,9 +48,9 @@ live-seat setup seats n live = by-number (noSuchSeat n) refl
     by-number : (t : Bool) → noSuchSeat n ≡ t → seatOf (liveSeats setup seats) n ≡ seatOf seats n
     by-number true none = unfold seatOf in rw none
     by-number false real =
-        seat-place (liveSeats setup seats) n real
+        seat-of-place (liveSeats setup seats) n real
         ∙ blank-elsewhere closedSeat (setup .lesson) seats (n - 1) (lesson-flag setup n real ∙ live)
-        ∙ sym (seat-place seats n real)
+        ∙ sym (seat-of-place seats n real)
 
 pub seat-low : (b : Bench) (n : ℕ) → lesson (b .setup) n ≡ false → seatOf (low b .seats) n ≡ seatOf (b .seats) n
 unfolding low

@@ -24,7 +24,7 @@ use Rattle.demands.specs.Apart.{pttOf, liveAboveTest, blotted, fixed, co
 use Rattle.demands.specs.LessonsSeen.{enters, voice, keys, asked}
 use Rattle.demands.specs.Undisturbed.{audioSent}
 use Rattle.demands.specs.WrongBenches.{Machine, Keeps, labAfter, Answers, Leaves, WrongBench, refusing, repeating, ignoring, nodding, inventing, withBytes, withCount, retold, wrong, afterBy, ApartAlone, entered, reported, spoken, quietReport, Tried, WrongBenches}
-use Rattle.demands.proofs.Exact.{never}
+use Rattle.packet.proofs.Judged.{never}
 use Rattle.demands.proofs.Apart.{lessons-apart}
 use Rattle.demands.proofs.Undisturbed.{none-sent, together-then}
 use Rattle.demands.proofs.Nodding.{nodding-apart}

@@ -1,7 +1,9 @@
+pub mod Judged
 pub mod OneByOne
 pub mod Taken
 pub mod Meaning
 pub mod Steps
+pub mod Passed
 pub mod TellApart
 pub mod Levels
 pub mod QualityLaws

@@ -2,30 +2,18 @@
 use Prim.Native.Nat.{ℕ}
 use mathlib.Core.Path.{_≡_, refl, ap, _∙_}
 use mathlib.Core.Bool.{Bool, true, false, cond, not}
-use mathlib.Core.List.{List, [], _∷_, _++_}
-use lib.ListN.{length, take, drop}
-use Rattle.packet.specs.Refusals.{Case, Answer, accepted, refused, judged, causeOf, andThen}
-use Rattle.packet.specs.Packet.{field, x, afterField, fieldAllowed}
+use mathlib.Core.List.{List}
+use lib.ListN.{take, drop}
+use Rattle.packet.specs.Refusals.{refused, andThen}
+use Rattle.packet.specs.Packet.{field, x, afterField}
 use Rattle.packet.specs.Items.{itemsAllowed, itemsOf, kept}
 use Rattle.packet.specs.Scan.{itemsRead}
 use Rattle.packet.specs.Reading.{readerRefusals, messageOf, read}
 use Rattle.packet.specs.Steps.{headVerdict, extensionVerdict, contentAnswer, payloadAnswer, itemsAnswer}
 use Rattle.packet.specs.declared.message.Direction.{Direction}
 use Rattle.packet.specs.declared.message.Items.{Items}
-use Rattle.packet.specs.declared.message.Message.{Message}
-use Rattle.packet.specs.declared.items.ItemsRead.{ItemsRead}
 use Rattle.packet.specs.declared.items.ItemsRead.the-variants as items
-
--- a list of cases, in two pieces
-pub judged-split : {A : Type 0} (cs ds : List Case) (a : A) → judged (cs ++ ds) a ≡ andThen (judged cs tt) (judged ds a)
-judged-split [] ds a = refl
-judged-split (c ∷ cs) ds a = by-case (c .holds) (judged-split cs ds a)
-  where
-    by-case : (t : Bool) → judged (cs ++ ds) a ≡ andThen (judged cs tt) (judged ds a)
-        → cond t (refused (c .number) (causeOf (c .number))) (judged (cs ++ ds) a)
-        ≡ andThen (cond t (refused (c .number) (causeOf (c .number))) (judged cs tt)) (judged ds a)
-    by-case true h = refl
-    by-case false h = h
+use Rattle.packet.proofs.Judged.{judged-split}
 
 pub read-in-steps : (d : Direction) (ext : ℕ) (p : List ℕ) → read d ext p ≡ andThen (headVerdict p) (andThen (extensionVerdict ext p) (contentAnswer d p))
 unfolding read headVerdict extensionVerdict contentAnswer readerRefusals

@@ -3,7 +3,7 @@ use Prim.Native.Nat.{ℕ}
 use mathlib.Core.Path.{_≡_, refl, ap, sym, _∙_}
 use mathlib.Core.Bool.{cond}
 use lib.Dec.{eqb}
-use Rattle.packet.specs.Refusals.{numberOf, Answer, accepted, refused, refusal, verdictOf}
+use Rattle.packet.specs.Refusals.{numberOf, causeOf, accepted, refusal, verdictOf}
 use Rattle.packet.specs.Reading.{txAnswer, rxAnswer}
 use Rattle.packet.specs.declared.refusal.Refusal.{Refusal}
 use Rattle.packet.specs.declared.refusal.Refusal.the-variants.{TooShort, WrongVersion, PaddingOrMarker, NoExtension, PayloadType, ExtensionCut, ExtensionType, WordCount, WordsCut, FieldRule, ItemRule, PayloadLength, NoSuchSeat, SeatNotOpen, SeatOpenAlready, PeriodOrMultiplier, LessonCoupling, CouplingTaken, OtherSsrc, NotAfterLast, KeyingNotAllowed, OtherId, SideNotAllowed, ElapsedTooLong, ReportAudio, BufferTooShort, UnwritableValue}
@@ -16,7 +16,7 @@ use Rattle.packet.specs.declared.reader.TxRead.{TxRead}
 use Rattle.packet.specs.declared.reader.TxRead.the-variants as tx
 use Rattle.packet.specs.declared.reader.RxRead.{RxRead}
 use Rattle.packet.specs.declared.reader.RxRead.the-variants as rx
-use native.Mathlib.Omega.{arith}
+use Rattle.packet.proofs.Judged.{never}
 
 -- the refusal of a number
 named : ℕ → Refusal
@@ -82,32 +82,32 @@ named-back UnwritableValue = refl
 pub number-tells : (r s : Refusal) → numberOf r ≡ numberOf s → r ≡ s
 number-tells r s e = sym (named-back r) ∙ ap named e ∙ named-back s
 
-refusal-tells : {A : Type 0} (r s : Refusal) → refusal {A = A} r ≡ refusal s → r ≡ s
+pub refusal-tells : {A : Type 0} (r s : Refusal) → refusal {A = A} r ≡ refusal s → r ≡ s
 refusal-tells r s e = number-tells r s (cc)
 
-never : {A : Type 0} (a : A) (r : Refusal) → accepted a ≡ refusal r → ⊥
-never a r e = let z : _≡_ {A = ℕ} 0 1 = cc in omega arith
+pub not-refused : {A : Type 0} (a : A) (r : Refusal) → accepted a ≡ refusal r → ⊥
+not-refused a r e = never a (numberOf r) (causeOf (numberOf r)) e
 
 pub tx-tells : (a b : TxRead) → txAnswer a ≡ txAnswer b → a ≡ b
 tx-tells (tx.Message m) (tx.Message n) e = cc
-tx-tells (tx.Message m) (tx.Refused r) e = absurd (never m r e)
-tx-tells (tx.Refused r) (tx.Message m) e = absurd (never m r (sym e))
+tx-tells (tx.Message m) (tx.Refused r) e = absurd (not-refused m r e)
+tx-tells (tx.Refused r) (tx.Message m) e = absurd (not-refused m r (sym e))
 tx-tells (tx.Refused r) (tx.Refused s) e = ap tx.Refused (refusal-tells r s e)
 
 pub rx-tells : (a b : RxRead) → rxAnswer a ≡ rxAnswer b → a ≡ b
 rx-tells (rx.Message m) (rx.Message n) e = cc
-rx-tells (rx.Message m) (rx.Refused r) e = absurd (never m r e)
-rx-tells (rx.Refused r) (rx.Message m) e = absurd (never m r (sym e))
+rx-tells (rx.Message m) (rx.Refused r) e = absurd (not-refused m r e)
+rx-tells (rx.Refused r) (rx.Message m) e = absurd (not-refused m r (sym e))
 rx-tells (rx.Refused r) (rx.Refused s) e = ap rx.Refused (refusal-tells r s e)
 
 pub written-tells : (a b : Written) → writtenAnswer a ≡ writtenAnswer b → a ≡ b
 written-tells (written.Length m) (written.Length n) e = cc
-written-tells (written.Length m) (written.Refused r) e = absurd (never m r e)
-written-tells (written.Refused r) (written.Length m) e = absurd (never m r (sym e))
+written-tells (written.Length m) (written.Refused r) e = absurd (not-refused m r e)
+written-tells (written.Refused r) (written.Length m) e = absurd (not-refused m r (sym e))
 written-tells (written.Refused r) (written.Refused s) e = ap written.Refused (refusal-tells r s e)
 
 pub verdict-tells : (a b : Verdict) → verdictOf a ≡ verdictOf b → a ≡ b
 verdict-tells verdict.Fine verdict.Fine e = refl
-verdict-tells verdict.Fine (verdict.Refused r) e = absurd (never tt r e)
-verdict-tells (verdict.Refused r) verdict.Fine e = absurd (never tt r (sym e))
+verdict-tells verdict.Fine (verdict.Refused r) e = absurd (not-refused tt r e)
+verdict-tells (verdict.Refused r) verdict.Fine e = absurd (not-refused tt r (sym e))
 verdict-tells (verdict.Refused r) (verdict.Refused s) e = ap verdict.Refused (refusal-tells r s e)

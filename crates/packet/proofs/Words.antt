@@ -6,7 +6,7 @@ use mathlib.Core.List.{List, [], _∷_, _++_}
 use native.Mathlib.Omega.{arith}
 use borrow.Author.Tests.{ne-eqb}
 use lib.Dec.{eqb}
-use lib.ListN.{length, replicate, length-append, length-replicate}
+use lib.ListN.{length, length-append, length-replicate}
 use Rattle.base.specs.Bytes.{byteAt, placed, partOf, padded}
 use Rattle.base.proofs.Buffers.{unpadded}
 use Rattle.packet.specs.Items.{Item, someItem}

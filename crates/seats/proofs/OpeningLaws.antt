@@ -1,14 +1,13 @@
 -- The cases of opening and closing a seat, as the answers of the code ask for them.
-use Prim.Native.Nat.{ℕ, suc, _+_, _<_, _≤_}
-use mathlib.Core.Path.{_≡_, refl, sym, _∙_}
+use Prim.Native.Nat.{ℕ, _+_, _<_, _≤_}
+use mathlib.Core.Path.{_≡_, refl, ap, sym, _∙_}
 use mathlib.Core.Bool.{Bool, true, false, not, _&&_, _||_}
 use mathlib.Core.List.{List}
-use native.Mathlib.Numerals.{add-one}
-use native.Mathlib.Omega.{arith}
 use lib.Dec.{eqb}
-use lib.ListN.{length, drop, getD, drop-of-length-le}
-use lib.Seq.{drop-cons}
+use lib.ListN.{length, drop, getD}
+use Rattle.base.proofs.Loops.{left-more, left-done}
 use Rattle.packet.specs.Refusals.{accepted, refused, refusal, verdictOf}
+use Rattle.packet.proofs.Judged.{meets-none}
 use Rattle.packet.specs.declared.refusal.Refusal.{Refusal}
 use Rattle.packet.specs.declared.refusal.Verdict.{Verdict}
 use Rattle.packet.specs.declared.refusal.Verdict.the-variants as verdict
@@ -20,6 +19,7 @@ use Rattle.seats.specs.declared.record.Bench.{Bench}
 use Rattle.seats.specs.declared.opening.Request.{Request}
 use Rattle.seats.specs.declared.opening.OpenAnswer.{OpenAnswer}
 use Rattle.seats.specs.declared.opening.OpenAnswer.the-variants as opening
+use Rattle.seats.proofs.Accepted.{close-accepted}
 use Rattle.seats.proofs.RecordLaws.{recordCases}
 
 -- ---- the call type
@@ -43,21 +43,21 @@ module _ (ss : List Seat) (i : ℕ) where
     coupling-found f = sym here ∙ left
       where
         here : anyCoupling (drop i ss) ≡ true
-        here = simp (drop-cons ss i closedSeat, ← e, f)
+        here = simp (left-more ss i refl closedSeat within, ← e, f)
 
     pub coupling-passed : t ≡ false → anyCoupling (drop (i + 1) ss) ≡ anyCoupling ss
     unfolding anyCoupling
-    coupling-passed f = rw add-one (sym here ∙ left)
+    coupling-passed f = sym here ∙ left
       where
-        here : anyCoupling (drop i ss) ≡ anyCoupling (drop (suc i) ss)
-        here = simp (drop-cons ss i closedSeat, ← e, f)
+        here : anyCoupling (drop i ss) ≡ anyCoupling (drop (i + 1) ss)
+        here = simp (left-more ss i refl closedSeat within, ← e, f)
 
   pub coupling-nowhere : length ss ≡ 8 → 8 ≤ i → anyCoupling (drop i ss) ≡ anyCoupling ss → false ≡ anyCoupling ss
   unfolding anyCoupling
   coupling-nowhere h k left = sym here ∙ left
     where
       here : anyCoupling (drop i ss) ≡ false
-      here = let over : length ss ≤ i = omega arith in simp (drop-of-length-le ss over)
+      here = simp (left-done ss i h k)
 
 -- ---- the answer of an opening; s, o, t, l, k and y are what the code's tests gave, in 01's order
 
@@ -109,11 +109,8 @@ module _ (n : ℕ) (seats : List Seat) (s : Bool) (seat : s ≡ noSuchSeat n) wh
     seat-fine q = simp (← seat, p, ← opened, q)
 
 pub seat-there : (n : ℕ) (seats : List Seat) {v : Verdict} → v ≡ verdict.Fine → verdictOf v ≡ seatVerdict n seats → noSuchSeat n ≡ false
-seat-there n seats {v} e said = by-test (noSuchSeat n) refl
-  where
-    by-test : (t : Bool) → t ≡ noSuchSeat n → noSuchSeat n ≡ false
-    by-test true q = cc (seat-13 n seats true q refl)
-    by-test false q = sym q
+unfolding seatVerdict
+seat-there n seats e said = close-accepted n seats (meets-none (closeRefusals n seats) tt tt (sym said ∙ ap verdictOf e) .0) .is-seat
 
 -- ---- what an answer leaves: a seat's number where it is accepted, the bench as it was where it is refused
 

@@ -6,15 +6,14 @@ use mathlib.Core.List.{List}
 use native.Mathlib.Nat.{mul-le-mul, lt-of-le-of-lt}
 use native.Mathlib.Omega.{arith}
 use borrow.Author.Needs.{needs}
-use borrow.Author.Tests.{eqb-false, ltb-false}
-use lib.Dec.{ltb, eqb, lit<}
+use lib.Dec.{lit<}
 use lib.ListN.{getD}
 use mir.Syntax.{w32}
 use mir.Val.{Fits}
-use Rattle.base.proofs.Truths.{or-left, or-right}
 use Rattle.seats.specs.Record.{noSuchSeat, closedSeat, seatOf, lesson}
 use Rattle.seats.specs.declared.record.Setup.{Setup}
 use Rattle.seats.specs.declared.record.Seat.{Seat}
+use Rattle.seats.proofs.Seats.{seat-in-range, seat-of-place, seat-of-none, lesson-flag}
 
 -- t is what the code's test of the number gave
 module _ (n : ℕ) where
@@ -22,27 +21,24 @@ module _ (n : ℕ) where
   a-seat t e f = sym e ∙ f
 
   pub seat-from-one : noSuchSeat n ≡ false → 1 ≤ n
-  seat-from-one e = omega (arith, eqb-false n 0 (or-left (eqb n 0) (ltb 8 n) e))
+  seat-from-one e = seat-in-range n e .0
 
   pub seat-in-place : noSuchSeat n ≡ false → n - 1 < 8
-  seat-in-place e = omega (arith, ltb-false 8 n (or-right (eqb n 0) (ltb 8 n) e))
+  seat-in-place e = let r = seat-in-range n e in omega arith
 
 module _ (n : ℕ) (t : Bool) (e : t ≡ noSuchSeat n) where
   pub seat-none : (seats : List Seat) → t ≡ true → closedSeat ≡ seatOf seats n
-  unfolding seatOf
-  seat-none seats f = simp (← e, f)
+  seat-none seats f = sym (seat-of-none seats n (sym e ∙ f))
 
   pub seat-there : (seats : List Seat) → t ≡ false → getD seats (n - 1) closedSeat ≡ seatOf seats n
-  unfolding seatOf
-  seat-there seats f = simp (← e, f)
+  seat-there seats f = sym (seat-of-place seats n (sym e ∙ f))
 
   pub lesson-none : (setup : Setup) → t ≡ true → false ≡ lesson setup n
   unfolding lesson
   lesson-none setup f = simp (← e, f)
 
   pub lesson-there : (setup : Setup) → t ≡ false → getD (setup .lesson) (n - 1) false ≡ lesson setup n
-  unfolding lesson
-  lesson-there setup f = simp (← e, f)
+  lesson-there setup f = lesson-flag setup n (sym e ∙ f)
 
 pub open-there : (seats : List Seat) (n : ℕ) (s : Seat) → s ≡ seatOf seats n → s .opened ≡ seatOf seats n .opened
 open-there seats n s e = rw e

@@ -1,14 +1,13 @@
-use Prim.Native.Nat.{_+_, _-_, _≤_}
+use Prim.Native.Nat.{_-_}
 use mathlib.Core.Path.{_≡_}
-use mathlib.Core.List.{_++_, map}
-use lib.ListN.{length, take, drop}
+use Rattle.base.proofs.Loops.{filledTo}
 use Rattle.air.specs.Marks.{standing}
 use Rattle.air.proofs.AirLaws.{rules}
 use Rattle.air.proofs.air.ranks.Statement.{statement}
 use Rattle.air.proofs.air.ranks.Tie as tie
 
 abbrev Inv-loop : tie.InvT-loop
-Inv-loop healthy seats order ranks₀ i₀ ranks i = (i ≤ 8) × (length ranks ≡ 8) × (take i ranks ++ map (standing healthy seats) (drop i order) ≡ map (standing healthy seats) order)
+Inv-loop healthy seats order ranks₀ i₀ ranks i = ranks ≡ filledTo (standing healthy seats) i order ranks₀
 
 abbrev μ-loop : tie.MeasureT-loop
 μ-loop healthy seats order ranks₀ i₀ ranks i = 8 - i

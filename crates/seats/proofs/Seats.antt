@@ -1,17 +1,19 @@
--- One seat of eight: after another was put in a place, and after all were changed alike.
-use Prim.Native.Nat.{ℕ, zero, suc, _+_, _-_, _≤_, _<_}
+-- One seat of eight, by its number: where it stands, after another was put in a place, and after all were changed alike.
+use Prim.Native.Nat.{ℕ, zero, suc, _-_, _≤_, _<_}
 use mathlib.Core.Path.{_≡_, refl, ap, sym, _∙_}
-use mathlib.Core.Bool.{Bool, true, false, cond}
+use mathlib.Core.Bool.{Bool, true, false, cond, true≢false}
 use mathlib.Core.List.{List, [], _∷_, map}
 use native.Mathlib.Omega.{arith}
 use lib.Dec.{ltb, eqb}
-use lib.ListN.{length, getD, set, replicate, getD-replicate, List·getD-map}
-use lib.Seq.{getD-set-same, getD-set-other, ext-getD}
-use borrow.Author.Tests.{ltb-false, eqb-true, eqb-false, ne-eqb, le-ltb}
+use lib.ListN.{length, getD, set, replicate, List·getD-map}
+use lib.Seq.{getD-set-same, getD-set-other}
+use borrow.Author.Tests.{ltb-false, eqb-true, eqb-false}
+use Rattle.base.proofs.Places.{all-alike}
 use Rattle.base.proofs.Truths.{or-left, or-right}
-use Rattle.seats.specs.Record.{noSuchSeat, closedSeat, seatOf}
+use Rattle.seats.specs.Record.{noSuchSeat, closedSeat, seatOf, lesson}
 use Rattle.seats.specs.Opening.{holdsCoupling, anyCoupling}
+use Rattle.seats.specs.declared.record.Setup.{Setup}
 use Rattle.seats.specs.declared.record.Seat.{Seat}
 
 -- 13 not met: "seat .. 1 to 8"
 pub seat-in-range : (n : ℕ) → noSuchSeat n ≡ false → (1 ≤ n) × (n ≤ 8)
@@ -20,8 +22,21 @@ seat-in-range n e =
     let last : n ≤ 8 = ltb-false 8 n (or-right (eqb n 0) (ltb 8 n) e) in
     (omega (arith, eqb-false n 0 first), last)
 
-pub is-seat : (n : ℕ) → 1 ≤ n → n ≤ 8 → noSuchSeat n ≡ false
-is-seat n first last = rw (ne-eqb n 0 (λ e. omega arith)) (le-ltb 8 n last)
+-- what holds of 1 to 8 holds of every seat
+pub each-seat : (P : ℕ → Type 0) → P 1 × P 2 × P 3 × P 4 × P 5 × P 6 × P 7 × P 8 → (n : ℕ) → noSuchSeat n ≡ false → P n
+each-seat P h zero real = absurd (true≢false real)
+each-seat P h (suc zero) real = h .0
+each-seat P h (suc (suc zero)) real = h .1
+each-seat P h (suc (suc (suc zero))) real = h .2
+each-seat P h (suc (suc (suc (suc zero)))) real = h .3
+each-seat P h (suc (suc (suc (suc (suc zero))))) real = h .4
+each-seat P h (suc (suc (suc (suc (suc (suc zero)))))) real = h .5
+each-seat P h (suc (suc (suc (suc (suc (suc (suc zero))))))) real = h .6
+each-seat P h (suc (suc (suc (suc (suc (suc (suc (suc zero)))))))) real = h .7
+each-seat P h (suc (suc (suc (suc (suc (suc (suc (suc (suc n))))))))) real = past (suc (suc (suc (suc (suc (suc (suc (suc (suc n))))))))) real (omega arith)
+  where
+    past : (k : ℕ) → noSuchSeat k ≡ false → 8 < k → P (suc (suc (suc (suc (suc (suc (suc (suc (suc n)))))))))
+    past k e far = absurd (let r = seat-in-range k e in omega arith)
 
 pub seat-of-place : (ss : List Seat) (n : ℕ) → noSuchSeat n ≡ false → seatOf ss n ≡ getD ss (n - 1) closedSeat
 unfolding seatOf
@@ -30,6 +45,11 @@ seat-of-place ss n e = rw e
 pub seat-of-none : (ss : List Seat) (n : ℕ) → noSuchSeat n ≡ true → seatOf ss n ≡ closedSeat
 unfolding seatOf
 seat-of-none ss n e = rw e
+
+-- a seat's flag in the set-up
+pub lesson-flag : (setup : Setup) (n : ℕ) → noSuchSeat n ≡ false → getD (setup .lesson) (n - 1) false ≡ lesson setup n
+unfolding lesson
+lesson-flag setup n real = rw real
 
 pub seat-put : (ss : List Seat) (m n : ℕ) (s : Seat) → length ss ≡ 8 → noSuchSeat m ≡ false
     → seatOf (set ss (m - 1) s) n ≡ cond (eqb n m) s (seatOf ss n)
@@ -65,9 +85,7 @@ seat-of-eight-closed n = by-case (noSuchSeat n) refl
   where
     by-case : (none : Bool) → noSuchSeat n ≡ none → seatOf (replicate 8 closedSeat) n ≡ closedSeat
     by-case true e = seat-of-none (replicate 8 closedSeat) n e
-    by-case false e =
-        let r = seat-in-range n e in
-        seat-of-place (replicate 8 closedSeat) n e ∙ getD-replicate 8 (n - 1) closedSeat closedSeat (omega arith)
+    by-case false e = seat-of-place (replicate 8 closedSeat) n e ∙ all-alike closedSeat 8 (n - 1)
 
 none-at-place : (ss : List Seat) (i : ℕ) → anyCoupling ss ≡ false → holdsCoupling (getD ss i closedSeat) ≡ false
 unfolding anyCoupling
@@ -83,14 +101,3 @@ none-coupling ss n e = by-case (noSuchSeat n)
     by-case : (none : Bool) → holdsCoupling (cond none closedSeat (getD ss (n - 1) closedSeat)) ≡ false
     by-case true = refl
     by-case false = none-at-place ss (n - 1) e
-
--- eight seats are the same where each is
-pub same-seats : (ss rs : List Seat) → length ss ≡ 8 → length rs ≡ 8 → ((n : ℕ) → seatOf ss n ≡ seatOf rs n) → ss ≡ rs
-same-seats ss rs eight eight′ same = ext-getD closedSeat ss rs (eight ∙ sym eight′) at-place
-  where
-    at-place : (i : ℕ) → i < length ss → getD ss i closedSeat ≡ getD rs i closedSeat
-    at-place i h =
-        let there : noSuchSeat (i + 1) ≡ false = is-seat (i + 1) (omega arith) (omega arith) in
-        let place : i + 1 - 1 ≡ i = omega arith in
-        ap (λ (k : ℕ). getD ss k closedSeat) (sym place) ∙ sym (seat-of-place ss (i + 1) there) ∙ same (i + 1)
-        ∙ seat-of-place rs (i + 1) there ∙ ap (λ (k : ℕ). getD rs k closedSeat) place

@@ -1,0 +1,69 @@
+-- What an accepted packet or report passed, by name, as seats' Accepted has it of the other calls.
+use Prim.Native.Nat.{ℕ, _≤_}
+use mathlib.Core.Path.{_≡_}
+use mathlib.Core.Bool.{true, false}
+use mathlib.Core.List.{List}
+use lib.ListN.{length}
+use borrow.Author.Tests.{ltb-false, not-false}
+use Rattle.base.specs.Order.{late}
+use Rattle.packet.specs.Packet.{field}
+use Rattle.packet.specs.Refusals.{NoCase}
+use Rattle.packet.specs.Reading.{readerRefusals, messageOf, messageWith}
+use Rattle.packet.specs.declared.message.Direction.the-variants as direction
+use Rattle.packet.proofs.Judged.{none-of-both}
+use Rattle.packet.proofs.Passed.{Passed, passed, field-passed}
+use Rattle.seats.specs.Record.{noSuchSeat, seatOf, lesson}
+use Rattle.seats.specs.Opening.{ownId}
+use Rattle.bench.specs.Hearing.{otherSsrc, keyingBarred, idAllowed, sideBarred, messageIn, messageRefusals, packetRefusals}
+use Rattle.bench.specs.Reporting.{audioBarred, reportBytes, reportRefusals}
+use Rattle.seats.specs.declared.record.Setup.{Setup}
+use Rattle.seats.specs.declared.record.Seat.{Seat}
+use Rattle.seats.specs.declared.record.Bench.{Bench}
+
+pub record PacketAccepted (setup : Setup) (n : ℕ) (seats : List Seat) (p : List ℕ) : Type 0 where
+  pub is-seat : noSuchSeat n ≡ false
+  pub was-open : seatOf seats n .opened ≡ true
+  pub was-read : Passed direction.Tx (setup .ext) p
+  pub same-ssrc : otherSsrc (seatOf seats n .heard) (messageIn p) ≡ false
+  pub not-late : late (seatOf seats n .heard .any) (seatOf seats n .heard .sequence) (messageIn p .sequence) ≡ false
+  pub may-key : keyingBarred (lesson setup n) (seatOf seats n .call) (messageIn p) ≡ false
+  pub id-allowed : idAllowed (ownId n (seatOf seats n .call)) (messageIn p) ≡ true
+  pub may-ask-side : sideBarred (lesson setup n) (setup .pair) (messageIn p) ≡ false
+
+pub packet-accepted : (setup : Setup) (n : ℕ) (seats : List Seat) (p : List ℕ) → NoCase (packetRefusals setup n seats p) → PacketAccepted setup n seats p
+unfolding packetRefusals messageRefusals
+packet-accepted setup n seats p none =
+    let reader = readerRefusals direction.Tx (setup .ext) p in
+    let rest = none-of-both reader (messageRefusals setup n (seatOf seats n) (messageIn p)) (none .1 .1) in
+    record {
+      is-seat = none .0;
+      was-open = not-false _ (none .1 .0);
+      was-read = passed direction.Tx (setup .ext) p (rest .0);
+      same-ssrc = rest .1 .0;
+      not-late = rest .1 .1 .0;
+      may-key = rest .1 .1 .1 .0;
+      id-allowed = not-false _ (rest .1 .1 .1 .1 .0);
+      may-ask-side = rest .1 .1 .1 .1 .1 .0;
+    }
+
+pub record ReportAccepted (b : Bench) (n timestamp : ℕ) (sound : List ℕ) (room : ℕ) : Type 0 where
+  pub is-seat : noSuchSeat n ≡ false
+  pub was-open : seatOf (b .seats) n .opened ≡ true
+  pub audio-allowed : audioBarred (b .signals) (length sound) ≡ false
+  pub room-enough : length (reportBytes b n timestamp sound) ≤ room
+
+pub report-accepted : (b : Bench) (n timestamp : ℕ) (sound : List ℕ) (room : ℕ) → NoCase (reportRefusals b n timestamp sound room)
+    → ReportAccepted b n timestamp sound room
+unfolding reportRefusals
+report-accepted b n timestamp sound room none =
+    record {
+      is-seat = none .0;
+      was-open = not-false _ (none .1 .0);
+      audio-allowed = none .1 .1 .0;
+      room-enough = ltb-false room (length (reportBytes b n timestamp sound)) (none .1 .1 .1 .0);
+    }
+
+-- "6 and 7 are reserved and refused"
+pub type-known : (ext : ℕ) (p : List ℕ) → Passed direction.Tx ext p → messageIn p .ptt ≤ 5
+unfolding messageOf messageWith
+type-known ext p read = field-passed direction.Tx (field p) (read .field-allowed) .type-known
