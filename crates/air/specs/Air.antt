@@ -1,9 +1,8 @@
 -- 01, Who is on the air, sentence by sentence.
 use Prim.Native.Nat.{ℕ, suc, max}
-use mathlib.Core.Bool.{Bool, true, false, cond, not, _&&_, _||_}
+use mathlib.Core.Bool.{Bool, false, cond, not, _&&_, _||_}
 use mathlib.Core.List.{List, [], _∷_, _++_, map}
 use lib.Dec.{ltb, leb, eqb}
-use lib.ListN.{length}
 use Rattle.packet.specs.Packet.{off, normal, coupling, priority, emergency, test}
 use Rattle.seats.specs.Record.{seatNumbers, seatOf}
 use Rattle.seats.specs.declared.record.Setup.{Setup}

@@ -1,5 +1,5 @@
 -- Bytes at a place are the number read there, written again; and a list cut at a place.
-use Prim.Native.Nat.{ℕ, _+_, _*_, _-_, _/_, _%_, _<_}
+use Prim.Native.Nat.{ℕ, _+_, _*_, _/_, _%_, _<_}
 use mathlib.Core.Path.{_≡_, ap, sym, _∙_}
 use mathlib.Core.List.{List, [], _∷_, _++_}
 use native.Mathlib.Omega.{arith}

@@ -2,7 +2,7 @@
 // Start at specs/Bytes.antt, which says what a number in a slice is; specs/Tests.antt has the set that answers most proofs.
 // order.rt has the order of packets, said in specs/Order.antt.
 ghost use mathlib.Core.Path.{_≡_};
-ghost use Prim.Native.Nat.{_+_, _*_, _-_, min};
+ghost use Prim.Native.Nat.{_+_, _*_, min};
 ghost use lib.ListN.{length};
 ghost use Rattle.base.specs.Bytes.{byteAt, number16, number32, bit, partOf, LiesAt, overlaid};
 

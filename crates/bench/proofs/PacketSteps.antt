@@ -1,7 +1,6 @@
 -- The packet's call in steps: 13 and 14, then the reader's 1 to 12, then 19 to 23 of the message.
-use Prim.Native.Nat.{ℕ, _+_, _-_, _≤_, _<_, min}
+use Prim.Native.Nat.{ℕ, _+_, _≤_, _<_, min}
 use mathlib.Core.Path.{_≡_, ap, sym, _∙_}
-use mathlib.Core.Bool.{false}
 use mathlib.Core.List.{List, [], _++_}
 use native.Mathlib.Omega.{arith}
 use borrow.Author.Tests.{le-leb, lt-leb}
@@ -18,12 +17,11 @@ use Rattle.packet.specs.declared.reader.TxRead.{TxRead}
 use Rattle.packet.specs.declared.reader.TxRead.the-variants as tx
 use Rattle.packet.proofs.Judged.{judged-mapped, by-verdict, meets-none, judged-split}
 use Rattle.packet.proofs.Passed.{Passed, passed, length-most}
-use Rattle.seats.specs.Record.{noSuchSeat, seatOf, settled}
+use Rattle.seats.specs.Record.{seatOf, settled}
 use Rattle.seats.specs.Opening.{closeRefusals, seatVerdict}
 use Rattle.bench.specs.Hearing.{messageIn, messageRefusals, packetRefusals, packetSaid, heardBench, hearing, isSent, audioIn, audioAt}
 use Rattle.bench.specs.Steps.{Whole, messageVerdict, hearingOf, messageSaid}
 use Rattle.bench.specs.Answers.{packetAnswer}
-use Rattle.seats.specs.declared.record.Seat.{Seat}
 use Rattle.seats.specs.declared.record.Bench.{Bench}
 use Rattle.bench.specs.declared.hearing.Hearing.{Hearing}
 use Rattle.bench.specs.declared.hearing.PacketAnswer.the-variants as answer

@@ -1,6 +1,6 @@
 -- 01, Report to a seat.
 use Prim.Native.Nat.{ℕ, _+_, _-_, _%_}
-use mathlib.Core.Bool.{Bool, true, false, cond, not, _&&_, _||_}
+use mathlib.Core.Bool.{Bool, false, cond, not, _&&_, _||_}
 use mathlib.Core.List.{List, [], _∷_}
 use lib.Dec.{ltb, leb, eqb}
 use lib.IntN.{ℤ}
@@ -8,7 +8,7 @@ use lib.ListN.{length, getD}
 use Rattle.packet.specs.Packet.{audioLength}
 use Rattle.packet.specs.Items.{rssi}
 use Rattle.packet.specs.Quality.{quality}
-use Rattle.packet.specs.Refusals.{Case, _if_, Answer, accepted, refused, judged}
+use Rattle.packet.specs.Refusals.{Case, _if_, Answer, judged}
 use Rattle.packet.specs.Writing.{fromRx, encode, filled}
 use Rattle.packet.specs.declared.message.SqiItem.{SqiItem}
 use Rattle.packet.specs.declared.message.SqiItem.the-variants as sqi
@@ -17,7 +17,6 @@ use Rattle.packet.specs.declared.message.SideItem.the-variants as side
 use Rattle.packet.specs.declared.message.Rx.{Rx}
 use Rattle.seats.specs.Record.{noSuchSeat, seatOf, withSequence}
 use Rattle.air.specs.Air.{benchAir}
-use Rattle.seats.specs.declared.record.Seat.{Seat}
 use Rattle.seats.specs.declared.record.Bench.{Bench}
 use Rattle.air.specs.declared.air.Air.{Air}
 

@@ -3,15 +3,13 @@ use Prim.Native.Nat.{ℕ}
 use mathlib.Core.Bool.{Bool}
 use mathlib.Core.List.{List, [], _∷_}
 use lib.IntN.{ℤ}
-use lib.ListN.{length}
-use Rattle.packet.specs.Refusals.{Answer, accepted, refused, mapped}
-use Rattle.seats.specs.Record.{freshBench, settled}
+use Rattle.packet.specs.Refusals.{Answer, accepted, mapped}
+use Rattle.seats.specs.Record.{settled}
 use Rattle.seats.specs.Opening.{openSaid, openedBench, closeSaid, closedBench}
 use Rattle.seats.specs.Ticking.{tickSaid, tickSets, tickedBench}
 use Rattle.seats.specs.Radio.{receivedBench, transmitterBench, sidedBench, sideSaid}
 use Rattle.bench.specs.Hearing.{packetSaid, heardBench, messageIn, audioIn}
 use Rattle.bench.specs.Reporting.{reportSaid, reportBytes, reportedBench}
-use Rattle.seats.specs.declared.record.Setup.{Setup}
 use Rattle.seats.specs.declared.record.Bench.{Bench}
 use Rattle.seats.specs.declared.opening.Request.{Request}
 use Rattle.bench.specs.declared.hearing.Hearing.{Hearing}

@@ -8,7 +8,7 @@ use lib.Dec.{ltb, eqb}
 use borrow.Author.Tests.{ne-eqb, eqb-true}
 use Rattle.base.proofs.Truths.{or-left, or-right}
 use Rattle.seats.specs.Record.{seatNumbers, seatOf, lesson}
-use Rattle.air.specs.Air.{rank, couplingRank, theFirst, takesPart, Keying, keyingsOf, keyings, topRank, atRank, leaders, added, onAir, among, anySends, airOf}
+use Rattle.air.specs.Air.{couplingRank, theFirst, takesPart, Keying, keyingsOf, keyings, topRank, atRank, leaders, added, onAir, among, anySends, airOf}
 use Rattle.seats.specs.declared.record.Setup.{Setup}
 use Rattle.seats.specs.declared.record.Seat.{Seat}
 use Rattle.seats.specs.declared.record.Bench.{Bench}

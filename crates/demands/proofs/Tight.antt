@@ -2,7 +2,7 @@
 use Prim.Native.Nat.{ℕ}
 use mathlib.Core.Path.{_≡_, ap, ap₂, sym, _∙_}
 use mathlib.Core.List.{List}
-use denote.Ref.{RefT, now}
+use denote.Ref.{RefT}
 use Rattle.packet.proofs.TellApart.{tx-tells, rx-tells, written-tells, verdict-tells}
 use Rattle.words.specs.Text.{Written}
 use Rattle.words.proofs.Writing.{written-once}

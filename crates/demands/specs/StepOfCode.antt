@@ -3,7 +3,7 @@
 use Prim.Native.Nat.{ℕ}
 use mathlib.Core.Path.{_≡_}
 use mathlib.Core.List.{List}
-use denote.Ref.{RefT, now}
+use denote.Ref.{now}
 use lib.ListN.{length, take}
 use Rattle.packet.specs.Refusals.{Answer, accepted, mapped}
 use Rattle.packet.specs.Writing.{writtenAnswer}

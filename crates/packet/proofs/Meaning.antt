@@ -9,8 +9,7 @@ use borrow.Author.Tests.{eqb-true}
 use Rattle.packet.specs.Items.{Item, Found, found, broken, behind, allZero, itemType, itemLength, itemsIn, someItem, runAllowed, itemsAllowed, itemsOf, listed, sqiAmong, climaxAmong, sideAmong, kept}
 use Rattle.packet.specs.Scan.{scanAt, beginOf, scanOf, noItems, startOf, endOf, itemsRead}
 use Rattle.packet.specs.declared.message.Direction.{Direction}
-use Rattle.packet.specs.declared.message.Items.{Items}
-use Rattle.packet.specs.declared.items.Mode.the-variants.{Tail, First, Broken}
+use Rattle.packet.specs.declared.items.Mode.the-variants.{Tail, First}
 use Rattle.packet.specs.declared.items.ItemsRead.the-variants as read
 use Rattle.packet.proofs.OneByOne.{led, broken-stays, tail-is, item, outcome, next-is}
 use Rattle.packet.proofs.Taken.{run-is}

@@ -11,7 +11,6 @@ use Rattle.packet.specs.Scan.{itemsRead}
 use Rattle.packet.specs.Reading.{readerRefusals, messageOf, read}
 use Rattle.packet.specs.Steps.{headVerdict, extensionVerdict, contentAnswer, payloadAnswer, itemsAnswer}
 use Rattle.packet.specs.declared.message.Direction.{Direction}
-use Rattle.packet.specs.declared.message.Items.{Items}
 use Rattle.packet.specs.declared.items.ItemsRead.the-variants as items
 use Rattle.packet.proofs.Judged.{judged-split}
 

@@ -16,7 +16,6 @@ use Rattle.packet.specs.declared.message.ClimaxItem.the-variants as clim
 use Rattle.packet.specs.declared.message.SideItem.{SideItem}
 use Rattle.packet.specs.declared.message.SideItem.the-variants as side
 use Rattle.packet.specs.declared.message.Items.{Items}
-use Rattle.packet.specs.declared.items.Mode.the-variants.{Broken}
 use Rattle.packet.specs.declared.items.ItemsRead.the-variants as read
 use Rattle.packet.proofs.OneByOne.{Kind, kind, sqiThere, climaxThere, sideThere, has, plus, item, takenIn, one, two, five, other}
 

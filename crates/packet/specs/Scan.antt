@@ -1,11 +1,10 @@
 -- What the reader does with one byte after another. (The scan's promises cite these. What the items mean stands in
 -- Items.antt, and `itemsRead` is that meaning; proofs/Meaning.antt shows that the scan finds it.)
 use Prim.Native.Nat.{ℕ}
-use mathlib.Core.Bool.{Bool, true, false, cond, not, _&&_}
+use mathlib.Core.Bool.{Bool, true, false, cond, not}
 use mathlib.Core.List.{List, foldl}
 use lib.Dec.{eqb}
-use Rattle.base.specs.Bytes.{bits}
-use Rattle.packet.specs.Items.{inTx, inRx, itemType, itemLength, quality, method, sqiAllowed, delay, climaxAllowed, sideAllowed, sideOf, itemsAllowed, itemsOf, kept}
+use Rattle.packet.specs.Items.{itemType, itemLength, quality, method, sqiAllowed, delay, climaxAllowed, sideAllowed, sideOf, itemsAllowed, itemsOf, kept}
 use Rattle.packet.specs.declared.message.Direction.{Direction}
 use Rattle.packet.specs.declared.message.Direction.the-variants.{Tx, Rx}
 use Rattle.packet.specs.declared.message.SqiItem.{SqiItem}

@@ -1,7 +1,5 @@
 // The RTP head and the extension's head: refusals 1 to 9.
 ghost use mathlib.Core.Path.{_≡_};
-ghost use Prim.Native.Nat.{ℕ, _+_, _*_, _-_, _≤_, _<_};
-ghost use lib.ListN.{length};
 ghost use Rattle.packet.specs.Packet.{payloadType, extensionAt, extensionType, wordCount, wordsAt, payloadAt, field};
 ghost use Rattle.packet.specs.Steps.{headVerdict, extensionVerdict};
 ghost use Rattle.packet.specs.Refusals.{verdictOf};

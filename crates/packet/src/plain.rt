@@ -2,7 +2,7 @@
 // Its pieces are made as values and laid over the buffer as far as there is room, so that no function asks for room.
 ghost use mathlib.Core.Path.{_≡_};
 ghost use mathlib.Core.List.{_++_};
-ghost use Prim.Native.Nat.{_+_, _*_, _%_};
+ghost use Prim.Native.Nat.{_+_, _%_};
 ghost use lib.ListN.{length};
 ghost use Rattle.base.specs.Bytes.{byteAt, bytes16, placed, overlaid, padded};
 ghost use Rattle.packet.specs.Items.{someItem};

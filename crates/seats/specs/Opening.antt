@@ -3,7 +3,7 @@ use Prim.Native.Nat.{ℕ}
 use mathlib.Core.Bool.{Bool, false, cond, not, _&&_, _||_}
 use mathlib.Core.List.{List, [], _∷_}
 use lib.Dec.{leb, eqb}
-use Rattle.packet.specs.Refusals.{Case, _if_, Answer, accepted, judged}
+use Rattle.packet.specs.Refusals.{Case, _if_, Answer, judged}
 use Rattle.seats.specs.Record.{noSuchSeat, seatOf, lesson, closedSeat, openedSeat, withSeat, withSequence}
 use Rattle.seats.specs.declared.record.Setup.{Setup}
 use Rattle.seats.specs.declared.record.Seat.{Seat}

@@ -1,5 +1,5 @@
 -- Numbers in words. "A number too large for its parameter type is an `error:` line, never a wrong value."
-use Prim.Native.Nat.{ℕ, zero, _+_, _*_, _-_}
+use Prim.Native.Nat.{ℕ, _+_, _*_, _-_}
 use mathlib.Core.Path.{_≡_, refl}
 use mathlib.Core.Bool.{Bool, true, cond, _&&_}
 use mathlib.Core.List.{List, [], _∷_}
