@@ -1,4 +1,5 @@
 -- What a test made of others says of each of them.
+use Prim.Native.Nat.{ℕ, _≤_}
 use mathlib.Core.Path.{_≡_, refl}
 use mathlib.Core.Bool.{Bool, true, false, cond, _&&_, _||_}
 
@@ -27,6 +28,11 @@ push f false a b = refl
 pub either-way : {A : Type 0} (t : Bool) (a : A) → cond t a a ≡ a
 either-way true a = refl
 either-way false a = refl
+
+-- a choice between numbers that are both small
+pub either-most : {k : ℕ} (t : Bool) (a b : ℕ) → a ≤ k → b ≤ k → cond t a b ≤ k
+either-most true a b h l = h
+either-most false a b h l = l
 
 -- where one side of a test does not decide it, the other does
 pub and-rest : (a b : Bool) → a && b ≡ false → a ≡ true → b ≡ false
