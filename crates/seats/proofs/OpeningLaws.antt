@@ -1,6 +1,6 @@
 -- The cases of opening and closing a seat, as the answers of the code ask for them.
 use Prim.Native.Nat.{ℕ, _+_, _<_, _≤_}
-use mathlib.Core.Path.{_≡_, refl, sym, _∙_}
+use mathlib.Core.Path.{_≡_, refl, ap, sym, _∙_}
 use mathlib.Core.Bool.{Bool, true, false, not, _&&_, _||_}
 use mathlib.Core.List.{List}
 use lib.Dec.{eqb}
@@ -18,6 +18,8 @@ use Rattle.seats.specs.declared.opening.OpenAnswer.{OpenAnswer}
 use Rattle.seats.specs.declared.opening.OpenAnswer.the-variants as opening
 use Rattle.seats.specs.declared.opening.DoneAnswer.{DoneAnswer}
 use Rattle.seats.specs.declared.opening.DoneAnswer.the-variants as closing
+use Rattle.packet.proofs.Judged.{meets-none}
+use Rattle.seats.proofs.Accepted.{open-accepted, close-accepted}
 use Rattle.seats.proofs.RecordLaws.{recordCases}
 
 -- ---- the call type
@@ -108,11 +110,8 @@ module _ (b : Bench) (n : ℕ) (s : Bool) (seat : s ≡ noSuchSeat n) where
 
 module _ (b : Bench) (n : ℕ) (r : Request) (a : OpenAnswer) (said : openAnswer a ≡ openSaid b n r) where
   pub opened-seat : (id : ℕ) → a ≡ opening.Opened id → noSuchSeat n ≡ false
-  opened-seat id e = by-test (noSuchSeat n) refl
-    where
-      by-test : (t : Bool) → t ≡ noSuchSeat n → noSuchSeat n ≡ false
-      by-test true q = cc (open-13 b n r true q refl)
-      by-test false q = sym q
+  unfolding openSaid
+  opened-seat id e = open-accepted (b .setup) n (b .seats) r (meets-none (openRefusals (b .setup) n (b .seats) r) _ id (sym said ∙ ap openAnswer e) .0) .is-seat
 
   pub opened-moves : (id : ℕ) (next : Bench) → a ≡ opening.Opened id → next ≡ openedBench b n r → next ≡ settled (openSaid b n r) b (openedBench b n r)
   opened-moves id next e m = rw (← said, e) m
@@ -122,11 +121,8 @@ module _ (b : Bench) (n : ℕ) (r : Request) (a : OpenAnswer) (said : openAnswer
 
 module _ (b : Bench) (n : ℕ) (a : DoneAnswer) (said : doneAnswer a ≡ closeSaid b n) where
   pub closed-seat : a ≡ closing.Done → noSuchSeat n ≡ false
-  closed-seat e = by-test (noSuchSeat n) refl
-    where
-      by-test : (t : Bool) → t ≡ noSuchSeat n → noSuchSeat n ≡ false
-      by-test true q = cc (close-13 b n true q refl)
-      by-test false q = sym q
+  unfolding closeSaid
+  closed-seat e = close-accepted n (b .seats) (meets-none (closeRefusals n (b .seats)) tt tt (sym said ∙ ap doneAnswer e) .0) .is-seat
 
   pub closed-moves : (next : Bench) → a ≡ closing.Done → next ≡ closedBench b n → next ≡ settled (closeSaid b n) b (closedBench b n)
   closed-moves next e m = rw (← said, e) m
