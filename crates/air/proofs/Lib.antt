@@ -5,3 +5,4 @@ pub mod Places
 pub mod AirFound
 pub mod AirLaws
 pub mod OrderLaws
+pub mod Bounds

@@ -9,7 +9,7 @@ use lib.Dec.{eqb}
 use Rattle.air.specs.Air.{among, theFirst}
 use Rattle.air.specs.Marks.{seatsAt, firstAt, mark, markAll, marksOf}
 
-among-both : (ns ms : List ℕ) (j : ℕ) → among (ns ++ ms) j ≡ among ns j || among ms j
+pub among-both : (ns ms : List ℕ) (j : ℕ) → among (ns ++ ms) j ≡ among ns j || among ms j
 unfolding among
 among-both [] ms j = refl
 among-both (n ∷ ns) ms j = rw (among-both ns ms j) (sym (or-assoc (eqb n j) (among ns j) (among ms j)))

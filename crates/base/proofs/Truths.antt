@@ -1,4 +1,5 @@
 -- What a test made of others says of each of them.
+use Prim.Native.Nat.{ℕ, _≤_}
 use mathlib.Core.Path.{_≡_, refl}
 use mathlib.Core.Bool.{Bool, true, false, cond, _&&_, _||_}
 
@@ -28,10 +29,19 @@ pub either-way : {A : Type 0} (t : Bool) (a : A) → cond t a a ≡ a
 either-way true a = refl
 either-way false a = refl
 
+-- a choice between numbers that are both small
+pub either-most : {k : ℕ} (t : Bool) (a b : ℕ) → a ≤ k → b ≤ k → cond t a b ≤ k
+either-most true a b h l = h
+either-most false a b h l = l
+
 -- where one side of a test does not decide it, the other does
 pub and-rest : (a b : Bool) → a && b ≡ false → a ≡ true → b ≡ false
 and-rest true b e h = e
 and-rest false b e h = cc
+
+pub and-rest-left : (a b : Bool) → a && b ≡ false → b ≡ true → a ≡ false
+and-rest-left true b e h = cc
+and-rest-left false b e h = refl
 
 pub or-rest : (a b : Bool) → a || b ≡ true → a ≡ false → b ≡ true
 or-rest true b e h = cc

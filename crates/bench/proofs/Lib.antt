@@ -1,4 +1,5 @@
 pub mod Accepted
+pub mod Sides
 pub mod PacketSteps
 pub mod ReportLaws
 pub mod AudioSent

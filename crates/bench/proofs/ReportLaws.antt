@@ -5,10 +5,10 @@ use mathlib.Core.Bool.{Bool, true, false, cond, not, _&&_, _||_}
 use mathlib.Core.List.{List, [], _∷_, _++_}
 use native.Mathlib.Omega.{arith}
 use borrow.Author.Tests.{le-leb, not-false}
-use lib.Dec.{ltb, eqb, lit≤}
+use lib.Dec.{ltb, eqb}
 use lib.IntN.{ℤ}
 use lib.ListN.{length, getD}
-use Rattle.base.proofs.Truths.{or-left}
+use Rattle.base.proofs.Truths.{either-most, or-left}
 use Rattle.packet.specs.Packet.{audioLength}
 use Rattle.packet.specs.Quality.{quality}
 use Rattle.packet.specs.Refusals.{_if_, Answer, accepted, refused, refusal, verdictOf, judged, andThen}
@@ -21,35 +21,18 @@ use Rattle.packet.proofs.QualityLaws.{quality-most}
 use Rattle.packet.proofs.Judged.{meets-none, judged-split}
 use Rattle.seats.specs.Record.{noSuchSeat}
 use Rattle.seats.specs.Opening.{closeRefusals, seatVerdict}
-use Rattle.air.specs.Air.{topRank, typeOf, smallest, among, leaders, keyings, airOf, benchAir}
+use Rattle.air.specs.Air.{benchAir}
 use Rattle.bench.specs.Reporting.{idTold, squTold, sqiTold, audioBarred, reportOf, reportBytes, reportRefusals, reportSaid, reportBuffer}
 use Rattle.bench.specs.Steps.{reportVerdict}
 use Rattle.seats.specs.declared.record.Seat.{Seat}
 use Rattle.seats.specs.declared.record.Bench.{Bench}
-use Rattle.seats.proofs.RecordLaws.{seat-in-place}
+use Rattle.seats.proofs.Seats.{seat-in-range}
+use Rattle.air.proofs.Bounds.{ptt-most, id-most}
 
 -- ---- what is told fits its bits
 
-either-most : (t : Bool) (k a b : ℕ) → a ≤ k → b ≤ k → cond t a b ≤ k
-either-most true k a b h l = h
-either-most false k a b h l = l
-
-type-most : (rank : ℕ) → typeOf rank ≤ 5
-type-most r =
-    either-most (eqb r 1) 5 5 _ (lit≤ tt) (either-most (eqb r 2) 5 2 _ (lit≤ tt) (either-most (eqb r 3) 5 1 _ (lit≤ tt)
-    (either-most (eqb r 4) 5 3 _ (lit≤ tt) (either-most (eqb r 5) 5 4 0 (lit≤ tt) (lit≤ tt)))))
-
-pub ptt-most : (b : Bench) → benchAir b .ptt ≤ 5
-unfolding benchAir airOf
-ptt-most b = type-most (topRank (keyings b))
-
-pub id-most : (b : Bench) → benchAir b .id ≤ 8
-unfolding benchAir airOf smallest
-id-most b =
-    let set = leaders (b .setup) (keyings b) in
-    either-most (among set 1) 8 1 _ (lit≤ tt) (either-most (among set 2) 8 2 _ (lit≤ tt) (either-most (among set 3) 8 3 _ (lit≤ tt)
-    (either-most (among set 4) 8 4 _ (lit≤ tt) (either-most (among set 5) 8 5 _ (lit≤ tt) (either-most (among set 6) 8 6 _ (lit≤ tt)
-    (either-most (among set 7) 8 7 _ (lit≤ tt) (either-most (among set 8) 8 8 0 (lit≤ tt) (lit≤ tt))))))))
+pub id-told-most : (b : Bench) (n : ℕ) → noSuchSeat n ≡ false → idTold (benchAir b) n ≤ 8
+id-told-most b n h = either-most (getD (benchAir b .leads) (n - 1) false) n (benchAir b .id) (seat-in-range n h .1) (id-most b)
 
 sqi-writable : (signals : ℕ) (level : ℤ) → sqiWritable (sqiTold signals level) ≡ true
 sqi-writable signals level = by-squ (squTold signals)
@@ -66,8 +49,7 @@ pub report-writable : (b : Bench) (n timestamp audio : ℕ) → noSuchSeat n ≡
     → writable (fromRx (reportOf b n timestamp)) audio ≡ true
 unfolding writable reportOf
 report-writable b n timestamp audio h e =
-    let eighth = seat-in-place n h in
-    let own : idTold (benchAir b) n ≤ 8 = either-most (getD (benchAir b .leads) (n - 1) false) 8 n (benchAir b .id) (omega arith) (id-most b) in
+    let own = id-told-most b n h in
     all-five _ _ _ true _ (le-leb (benchAir b .ptt) 5 (ptt-most b)) (le-leb (idTold (benchAir b) n) 63 (omega arith)) (sqi-writable (b .signals) (b .level)) refl
     (not-false (eqb audio 0 || audioLength audio) (or-left (not (eqb audio 0 || audioLength audio)) _ e))
 

@@ -15,7 +15,8 @@ use Rattle.seats.specs.declared.record.Bench.{Bench}
 use Rattle.demands.specs.Apart.{named, withoutLessons, pttOf, liveAboveTest, fixed, compared, LessonsApart}
 use Rattle.demands.proofs.Runs.{after-run}
 use Rattle.demands.proofs.WithoutLessons.{low, seat-low}
-use Rattle.demands.proofs.LessonSeats.{Held, held-step, held-fresh, setup-kept}
+use Rattle.demands.proofs.SeatAfter.{setup-kept}
+use Rattle.demands.proofs.LessonSeats.{Held, held-step, held-fresh}
 use Rattle.demands.proofs.BenchAir.{above-test-low}
 use Rattle.demands.proofs.LessonCalls.{unseen}
 use Rattle.demands.proofs.LiveCalls.{Match, match-plain, match-opening, match-closing, match-tick, match-side}

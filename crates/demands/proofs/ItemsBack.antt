@@ -4,7 +4,7 @@ use mathlib.Core.Path.{_≡_, refl}
 use mathlib.Core.Bool.{true, false}
 use mathlib.Core.List.{List, [], _∷_, _++_}
 use native.Mathlib.Omega.{arith}
-use lib.ListN.{length, replicate}
+use lib.ListN.{replicate}
 use lib.Dec.{eqb}
 use borrow.Author.Tests.{ne-eqb}
 use Rattle.base.specs.Bytes.{bit}
@@ -55,8 +55,3 @@ pub allowed-back : (d : Direction) (is : List Item) (n : ℕ) → AllWrite is �
 unfolding itemsAllowed runAllowed itemBytes
 allowed-back d [] n w a t = zeros n
 allowed-back d (i ∷ is) n w a t = simp (items-back (i ∷ is) n w, a, t)
-
-pub length-item-bytes : (is : List Item) → length (itemBytes is) ≡ 2 * length is
-unfolding itemBytes
-length-item-bytes [] = refl
-length-item-bytes (i ∷ is) = omega (arith, length-item-bytes is)

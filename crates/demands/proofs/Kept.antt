@@ -4,7 +4,7 @@ use mathlib.Core.Path.{_≡_, refl, ap, sym, _∙_, subst, subst₂}
 use mathlib.Core.Bool.{Bool, true, false, cond}
 use mathlib.Core.List.{List, [], _∷_}
 use native.Mathlib.Omega.{arith}
-use lib.Dec.{leb, eqb}
+use lib.Dec.{eqb}
 use lib.ListN.{length, getD, set, length-set}
 use borrow.Author.Tests.{eqb-true}
 use Rattle.base.proofs.Places.{set-cases, all-alike}
@@ -12,20 +12,21 @@ use Rattle.packet.specs.Refusals.{NoCase}
 use Rattle.packet.specs.declared.message.Tx.{Tx}
 use Rattle.seats.specs.Record.{closedSeat, openedSeat, freshBench, seatOf, withSeats, withSeat, withSequence}
 use Rattle.seats.specs.Opening.{callCode, asksCoupling, holdsCoupling, openedBench, closedBench}
-use Rattle.seats.specs.Ticking.{aged, tickedSeat, tickedBench}
+use Rattle.seats.specs.Ticking.{tickedSeat, tickedBench}
 use Rattle.seats.specs.Radio.{receivedBench, transmitterBench, sidedBench}
-use Rattle.bench.specs.Hearing.{fieldHeard, heardSeat, takesEffect, sideAfter, heardBench, messageIn}
+use Rattle.bench.specs.Hearing.{fieldHeard, heardSeat, heardBench, messageIn}
 use Rattle.bench.specs.Reporting.{reportedBench}
 use Rattle.bench.specs.Step.{Call, opening, closing, packet, tick, report, received, transmitter, side, step, after}
 use Rattle.seats.specs.declared.record.Setup.{Setup}
-use Rattle.seats.specs.declared.record.Field.{Field}
 use Rattle.seats.specs.declared.record.Seat.{Seat}
 use Rattle.seats.specs.declared.record.Bench.{Bench}
 use Rattle.demands.specs.ExactCalls.{refusalsOf}
 use Rattle.demands.specs.SeatAfter.{seatAfter}
 use Rattle.demands.specs.Kept.{SeatKept, count, Kept, InRange, AllInRange, KeptThroughout}
 use Rattle.demands.proofs.Calls.{benchAfter, after-call}
+use Rattle.seats.proofs.TickingLaws.{ticked-cases}
 use Rattle.seats.proofs.Accepted.{open-accepted, side-accepted}
+use Rattle.bench.proofs.Sides.{side-stays}
 use Rattle.bench.proofs.Accepted.{packet-accepted}
 use Rattle.seats.proofs.Seats.{seat-of-eight-closed, none-coupling}
 use Rattle.demands.proofs.SeatAfter.{same-setup, as-many-seats, seat-made}
@@ -66,18 +67,7 @@ heard-coupling true s m e = e
 heard-coupling false s m e = e
 
 ticked-coupling : (ms : ℕ) (s : Seat) → holdsCoupling (tickedSeat ms s) ≡ true → holdsCoupling s ≡ true
-unfolding tickedSeat
-ticked-coupling ms s e = by-case (s .opened) (leb (s .left) ms) e
-  where
-    by-case : (opened silent : Bool) → holdsCoupling (cond opened (cond silent closedSeat (aged ms s)) s) ≡ true → holdsCoupling s ≡ true
-    by-case true true e = cc
-    by-case true false e = e
-    by-case false silent e = e
-
--- a packet without the item leaves the side
-side-stays : (old new : Field) (inUse : Bool) → new .sided ≡ false → sideAfter old new inUse ≡ inUse
-unfolding sideAfter takesEffect
-side-stays old new inUse e = rw e
+ticked-coupling ms s = ticked-cases (λ t. holdsCoupling t ≡ true → holdsCoupling s ≡ true) ms s (λ e. cc) (λ is-open younger e. e) (λ e. e)
 
 module _ (b : Bench) (kept : Kept b) where
   sequences-kept : (c : Call) → InRange c → (length (benchAfter b c .sequences) ≡ 8) × ((i : ℕ) → getD (benchAfter b c .sequences) i 0 < 65536)

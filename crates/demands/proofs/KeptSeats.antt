@@ -1,13 +1,13 @@
 -- A seat keeps what Kept says of it: closed, just opened, a packet later, a tick later.
 use Prim.Native.Nat.{ℕ, _+_, _*_, _≤_, _<_}
 use mathlib.Core.Path.{_≡_, refl, ap, sym}
-use mathlib.Core.Bool.{Bool, true, false, cond, not, _&&_, _||_, or-true}
+use mathlib.Core.Bool.{Bool, true, false, not, _&&_, _||_}
 use mathlib.Core.List.{List}
 use mathlib.Core.Logic.{_⊎_, inl, inr}
 use native.Mathlib.Omega.{arith}
 use native.Mathlib.Nat.{mod-lt, mul-pos}
-use lib.Dec.{leb, eqb}
-use borrow.Author.Tests.{eqb-true, eq-eqb, ne-eqb, leb-false, not-false}
+use lib.Dec.{eqb}
+use borrow.Author.Tests.{eqb-true, eq-eqb, ne-eqb, not-false}
 use Rattle.base.specs.Bytes.{Bytes}
 use Rattle.base.proofs.Truths.{and-right, and-rest, or-left, or-right, or-rest}
 use Rattle.base.proofs.Numbers.{number16-small}
@@ -27,7 +27,9 @@ use Rattle.seats.specs.declared.opening.CallType.{CallType}
 use Rattle.seats.specs.declared.opening.CallType.the-variants.{Idle, RxOnly, TxRx, Coupling}
 use Rattle.seats.specs.declared.opening.Request.{Request}
 use Rattle.demands.specs.Kept.{FieldKept, SeatKept}
+use Rattle.seats.proofs.TickingLaws.{ticked-cases}
 use Rattle.seats.proofs.Accepted.{OpenAccepted}
+use Rattle.bench.proofs.Sides.{no-item-single, no-item-lesson}
 use Rattle.bench.proofs.Accepted.{PacketAccepted, type-known}
 
 -- ---- the last field
@@ -67,14 +69,10 @@ own-or-off true off none e h = refl
 own-or-off false true none e h = sym h
 own-or-off false false none e h = e
 
-no-item : (item single isLesson : Bool) → item && (single || isLesson) ≡ false → single || isLesson ≡ true → item ≡ false
-no-item true single isLesson e h = cc
-no-item false single isLesson e h = refl
-
 module _ (isLesson pair : Bool) (call own : ℕ) (m : Tx) where
   heard-field-kept : m .ptt ≤ 5 → keyingBarred isLesson call m ≡ false → idAllowed own m ≡ true → sideBarred isLesson pair m ≡ false
       → FieldKept isLesson pair call own (fieldHeard m)
-  unfolding keyingBarred idAllowed sideBarred fieldHeard
+  unfolding keyingBarred idAllowed fieldHeard
   heard-field-kept small barred allowed sided =
       let off = eqb (m .ptt) 0 in
       let keys = isTxRx call || isCoupling call in
@@ -90,8 +88,8 @@ module _ (isLesson pair : Bool) (call own : ℕ) (m : Tx) where
         lesson-only-tests = tests-only isLesson off (eqb (m .ptt) 5) (or-right (not off && not keys || alone) lessons barred);
         own-or-none = by-id (eqb (m .id) own) refl;
         keyed-own = λ e. eqb-true (m .id) own (own-or-off (eqb (m .id) own) off (eqb (m .id) 0) allowed e);
-        no-item-single = λ e. no-item (hasSide (m .side)) (not pair) isLesson sided (rw e);
-        no-item-lesson = λ e. no-item (hasSide (m .side)) (not pair) isLesson sided (rw e (or-true (not pair)));
+        no-item-single = no-item-single isLesson pair m sided;
+        no-item-lesson = no-item-lesson isLesson pair m sided;
         no-delay = no-delay (m .climax);
         no-side = no-side (m .side);
       }
@@ -213,10 +211,5 @@ aged-seat-kept setup n ms s is-open younger kept =
     }
 
 pub ticked-seat-kept : (setup : Setup) (n ms : ℕ) (s : Seat) → SeatKept setup n s → SeatKept setup n (tickedSeat ms s)
-unfolding tickedSeat
-ticked-seat-kept setup n ms s kept = by-case (s .opened) (leb (s .left) ms) refl refl
-  where
-    by-case : (opened silent : Bool) → s .opened ≡ opened → leb (s .left) ms ≡ silent → SeatKept setup n (cond opened (cond silent closedSeat (aged ms s)) s)
-    by-case true true e h = closed-seat-kept setup n
-    by-case true false e h = aged-seat-kept setup n ms s e (leb-false (s .left) ms h) kept
-    by-case false silent e h = kept
+ticked-seat-kept setup n ms s kept =
+    ticked-cases (SeatKept setup n) ms s (closed-seat-kept setup n) (λ is-open younger. aged-seat-kept setup n ms s is-open younger kept) kept

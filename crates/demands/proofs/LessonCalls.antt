@@ -1,23 +1,26 @@
 -- A call that names a lesson seat leaves the bench without its lesson seats as it is.
 use Prim.Native.Nat.{ℕ, _-_}
 use mathlib.Core.Path.{_≡_, refl, sym, _∙_}
-use mathlib.Core.Bool.{Bool, true, false, not, _&&_, _||_, false≢true}
+use mathlib.Core.Bool.{true, false, false≢true}
+use mathlib.Core.List.{List}
 use lib.ListN.{getD}
-use Rattle.packet.specs.declared.message.Tx.{Tx}
-use Rattle.seats.specs.Record.{noSuchSeat, seatOf, lesson, withSeats, withSeat, withSequence, settled}
-use Rattle.seats.specs.Opening.{openRefusals, openSaid, openedBench, closeRefusals, closeSaid, closedBench}
-use Rattle.bench.specs.Hearing.{hasSide, sideBarred, messageIn, packetRefusals, fieldHeard, takesEffect, sideAfter, heardBench, packetSaid}
-use Rattle.bench.specs.Reporting.{reportRefusals, reportSaid, reportedBench}
+use Rattle.packet.specs.Refusals.{NoCase}
+use Rattle.seats.specs.Record.{noSuchSeat, seatOf, lesson, withSeats, withSeat, withSequence}
+use Rattle.seats.specs.Opening.{openedBench, closedBench}
+use Rattle.bench.specs.Hearing.{messageIn, fieldHeard, heardBench}
+use Rattle.bench.specs.Reporting.{reportedBench}
 use Rattle.bench.specs.Step.{Call, opening, closing, packet, tick, report, received, transmitter, side, step}
-use Rattle.seats.specs.declared.record.Field.{Field}
 use Rattle.seats.specs.declared.record.Bench.{Bench}
 use Rattle.seats.specs.declared.opening.Request.{Request}
 use Rattle.demands.specs.Apart.{named}
 use Rattle.demands.proofs.Blanking.{set-hidden}
-use Rattle.packet.proofs.Judged.{judged-one}
+use Rattle.seats.proofs.Accepted.{open-accepted, close-accepted}
+use Rattle.bench.proofs.Sides.{no-item-lesson, side-stays}
+use Rattle.bench.proofs.Accepted.{PacketAccepted, packet-accepted, report-accepted}
 use Rattle.seats.proofs.Seats.{lesson-flag}
+use Rattle.demands.specs.ExactCalls.{refusalsOf}
+use Rattle.demands.proofs.Calls.{benchAfter, after-call}
 use Rattle.demands.proofs.WithoutLessons.{low, none-is-lesson, order-hidden}
-use Rattle.demands.proofs.LessonSeats.{Heeded, heeded}
 
 module _ (b : Bench) (n : ℕ) (hidden : lesson (b .setup) n ≡ true) (real : noSuchSeat n ≡ false) where
   flag : getD (b .setup .lesson) (n - 1) false ≡ true
@@ -35,41 +38,26 @@ module _ (b : Bench) (n : ℕ) (hidden : lesson (b .setup) n ≡ true) (real : n
   unfolding low reportedBench withSequence
   reported-unseen = simp (set-hidden, flag)
 
-  -- "main/standby item from a lesson seat" is refused
-  no-side : (m : Tx) → sideBarred (lesson (b .setup) n) (b .setup .pair) m ≡ false → hasSide (m .side) ≡ false
-  unfolding sideBarred
-  no-side m h = by-item (hasSide (m .side)) (b .setup .pair) (rw hidden at h)
-    where
-      by-item : (a c : Bool) → a && (not c || true) ≡ false → a ≡ false
-      by-item true true h = h
-      by-item true false h = h
-      by-item false c h = refl
-
-  side-unmoved : (m : Tx) (old : Field) (inUse : Bool) → hasSide (m .side) ≡ false → sideAfter old (fieldHeard m) inUse ≡ inUse
-  unfolding sideAfter takesEffect fieldHeard
-  side-unmoved m old inUse e = rw e
-
-  heard-unseen : (m : Tx) → Heeded (b .setup) n (seatOf (b .seats) n) m → low (heardBench b n m) ≡ low b
+  heard-unseen : (p : List ℕ) → PacketAccepted (b .setup) n (b .seats) p → low (heardBench b n (messageIn p)) ≡ low b
   unfolding low heardBench
-  heard-unseen m h =
-      let unmoved = side-unmoved m (seatOf (b .seats) n .heard .field) (b .standby) (no-side m (h .may-side)) in
+  heard-unseen p h =
+      let no-item = no-item-lesson (lesson (b .setup) n) (b .setup .pair) (messageIn p) (h .may-ask-side) hidden in
+      let unmoved = side-stays (seatOf (b .seats) n .heard .field) (fieldHeard (messageIn p)) (b .standby) (unfold fieldHeard in no-item) in
       simp (set-hidden, flag, order-hidden (b .setup) n, hidden, unmoved)
 
 pub unseen : (b : Bench) (c : Call) → lesson (b .setup) (named c) ≡ true → low (step b c .bench) ≡ low b
-unfolding step named openSaid closeSaid packetSaid reportSaid
-unseen b (opening n r) hidden =
-    judged-one (λ a. low (settled a b (openedBench b n r)) ≡ low b) (openRefusals (b .setup) n (b .seats) r) _ (λ k c. refl)
-    (λ h. opened-unseen b n hidden (unfold openRefusals in h .0) r)
-unseen b (closing n) hidden =
-    judged-one (λ a. low (settled a b (closedBench b n)) ≡ low b) (closeRefusals n (b .seats)) tt (λ k c. refl)
-    (λ h. closed-unseen b n hidden (unfold closeRefusals in h .0))
-unseen b (packet n p) hidden =
-    judged-one (λ a. low (settled a b (heardBench b n (messageIn p))) ≡ low b) (packetRefusals (b .setup) n (b .seats) p) _ (λ k c. refl)
-    (λ h. let passed = heeded (b .setup) n (b .seats) p h in heard-unseen b n hidden (passed .real) (messageIn p) passed)
-unseen b (report n timestamp sound room) hidden =
-    judged-one (λ a. low (settled a b (reportedBench b n)) ≡ low b) (reportRefusals b n timestamp sound room) _ (λ k c. refl)
-    (λ h. reported-unseen b n hidden (unfold reportRefusals in h .0))
-unseen b (tick ms) hidden = absurd (false≢true (sym (none-is-lesson (b .setup)) ∙ hidden))
-unseen b (received signals level) hidden = absurd (false≢true (sym (none-is-lesson (b .setup)) ∙ hidden))
-unseen b (transmitter healthy) hidden = absurd (false≢true (sym (none-is-lesson (b .setup)) ∙ hidden))
-unseen b (side standby) hidden = absurd (false≢true (sym (none-is-lesson (b .setup)) ∙ hidden))
+unfolding named
+unseen b c hidden = after-call (λ (x : Bench). low x ≡ low b) b c refl (made-unseen c hidden)
+  where
+    none-named : lesson (b .setup) 0 ≡ true → ⊥
+    none-named e = false≢true (sym (none-is-lesson (b .setup)) ∙ e)
+
+    made-unseen : (c : Call) → lesson (b .setup) (named c) ≡ true → NoCase (refusalsOf b c) → low (benchAfter b c) ≡ low b
+    made-unseen (opening n r) hidden none = opened-unseen b n hidden (open-accepted (b .setup) n (b .seats) r none .is-seat) r
+    made-unseen (closing n) hidden none = closed-unseen b n hidden (close-accepted n (b .seats) none .is-seat)
+    made-unseen (packet n p) hidden none = let h = packet-accepted (b .setup) n (b .seats) p none in heard-unseen b n hidden (h .is-seat) p h
+    made-unseen (report n timestamp sound room) hidden none = reported-unseen b n hidden (report-accepted b n timestamp sound room none .is-seat)
+    made-unseen (tick ms) hidden none = absurd (none-named hidden)
+    made-unseen (received signals level) hidden none = absurd (none-named hidden)
+    made-unseen (transmitter healthy) hidden none = absurd (none-named hidden)
+    made-unseen (side standby) hidden none = absurd (none-named hidden)

@@ -12,6 +12,7 @@ use Rattle.air.specs.Air.{couplingRank, theFirst, takesPart, Keying, keyingsOf,
 use Rattle.seats.specs.declared.record.Setup.{Setup}
 use Rattle.seats.specs.declared.record.Seat.{Seat}
 use Rattle.seats.specs.declared.record.Bench.{Bench}
+use Rattle.air.proofs.Marking.{among-both}
 use Rattle.demands.proofs.WithoutLessons.{liveOrder, liveSeats, low, live-seat}
 
 unfoldable pub liveKeyings : Setup → List Keying → List Keying
@@ -111,9 +112,7 @@ off-the-first n [] h = refl
 off-the-first n (m ∷ l) h = simp (or-left (eqb m n) (among l n) h)
 
 off-both : (n : ℕ) (l m : List ℕ) → among l n ≡ false → among m n ≡ false → among (l ++ m) n ≡ false
-unfolding among
-off-both n [] m h g = g
-off-both n (k ∷ l) m h g = simp (or-left (eqb k n) (among l n) h, off-both n l m (or-right (eqb k n) (among l n) h) g)
+off-both n l m h g = simp (among-both l m n, h, g)
 
 pub off-air : (setup : Setup) (n : ℕ) (ks : List Keying) → among (seatsOf ks) n ≡ false → among (onAir setup ks) n ≡ false
 unfolding onAir leaders added

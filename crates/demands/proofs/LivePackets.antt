@@ -1,47 +1,33 @@
 -- A packet for a live seat, on a bench and on that bench without its lesson seats; and one for a lesson seat.
-use Prim.Native.Nat.{ℕ, _+_}
+use Prim.Native.Nat.{ℕ}
 use mathlib.Core.Path.{_≡_, refl, sym, ap, subst, _∙_}
 use mathlib.Core.Bool.{Bool, true, false, cond, not, _&&_}
 use mathlib.Core.List.{List, []}
-use lib.Dec.{leb, eqb}
-use lib.ListN.{length}
-use Rattle.base.specs.Bytes.{partOf}
+use lib.Dec.{eqb}
 use Rattle.base.specs.Order.{missing}
-use Rattle.base.proofs.Truths.{either-way}
-use Rattle.packet.specs.Packet.{payload, payloadAt, test}
-use Rattle.packet.specs.Refusals.{NoCase, Answer, accepted, mapped}
-use Rattle.seats.specs.Record.{seatNumbers, seatOf, lesson, settled}
+use Rattle.packet.specs.Packet.{payload, test}
+use Rattle.packet.specs.Refusals.{NoCase, accepted, mapped}
+use Rattle.seats.specs.Record.{seatNumbers, lesson, settled}
 use Rattle.air.specs.Air.{keyings}
 use Rattle.bench.specs.Hearing.{messageIn, messageRefusals, packetRefusals, fieldHeard, heardSeat, heardBench, isSent, hearing, packetSaid, audioIn}
 use Rattle.bench.specs.Step.{packet, heard, told, step}
 use Rattle.seats.specs.declared.record.Seat.{Seat}
 use Rattle.seats.specs.declared.record.Bench.{Bench}
-use Rattle.bench.specs.declared.hearing.Hearing.{Hearing}
 use Rattle.demands.specs.Apart.{named, pttOf, liveAboveTest, fixed}
 use Rattle.packet.proofs.Judged.{accepts, judged-one}
+use Rattle.bench.proofs.Accepted.{PacketAccepted, packet-accepted}
+use Rattle.bench.proofs.AudioSent.{audio-sent}
 use Rattle.demands.proofs.WithoutLessons.{low, seat-low}
 use Rattle.demands.proofs.LiveAir.{Up, lesson-off-air}
-use Rattle.demands.proofs.LessonSeats.{Held, Heeded, heeded, held-heard}
+use Rattle.demands.proofs.LessonSeats.{Held, held-heard}
 use Rattle.demands.proofs.BenchAir.{keyings-test-at-most, up-is}
 use Rattle.demands.proofs.SentAudio.{seat-heard, heard-low, sent-is, sent-same, sent-not-test}
 use Rattle.demands.proofs.LiveCalls.{Match, match-judged}
 
 -- the audio of an accepted packet, sent or not
-soundIf : Bool → List ℕ → List ℕ
-soundIf t p =
-    cond (leb (cond t (payloadAt p) 0 + cond t (length (payload p)) 0) (length p))
-    (partOf (cond t (payloadAt p) 0) (cond t (payloadAt p) 0 + cond t (length (payload p)) 0) p) []
-
-no-sound : (p : List ℕ) → soundIf false p ≡ []
-unfolding soundIf
-no-sound p = either-way (leb 0 (length p)) []
-
 sound-is : (b : Bench) (n : ℕ) (p : List ℕ) → NoCase (packetRefusals (b .setup) n (b .seats) p)
-    → audioIn (packetSaid b n p) p ≡ soundIf (isSent b n (messageIn p)) p
-unfolding packetSaid
-sound-is b n p h =
-    ap (λ (a : Answer Hearing). audioIn a p) (accepts (hearing b n p) (packetRefusals (b .setup) n (b .seats) p) h)
-    ∙ (unfold audioIn hearing soundIf in refl)
+    → audioIn (packetSaid b n p) p ≡ cond (isSent b n (messageIn p)) (payload p) []
+sound-is b n p h = audio-sent b n p (hearing b n p) (unfold packetSaid in accepts (hearing b n p) (packetRefusals (b .setup) n (b .seats) p) h)
 
 module _ (b : Bench) (n : ℕ) (p : List ℕ) (i : Held b) (live : lesson (b .setup) n ≡ false) where
   refusals-low : packetRefusals (low b .setup) n (low b .seats) p ≡ packetRefusals (b .setup) n (b .seats) p
@@ -49,27 +35,27 @@ module _ (b : Bench) (n : ℕ) (p : List ℕ) (i : Held b) (live : lesson (b .se
   refusals-low = simp (seat-low b n live) (unfold low in refl)
 
   module _ (h : NoCase (packetRefusals (b .setup) n (b .seats) p)) where
-    passed : Heeded (b .setup) n (seatOf (b .seats) n) (messageIn p)
-    passed = heeded (b .setup) n (b .seats) p h
+    passed : PacketAccepted (b .setup) n (b .seats) p
+    passed = packet-accepted (b .setup) n (b .seats) p h
 
-    sound-low : audioIn (packetSaid (low b) n p) p ≡ soundIf (isSent (low b) n (messageIn p)) p
+    sound-low : audioIn (packetSaid (low b) n p) p ≡ cond (isSent (low b) n (messageIn p)) (payload p) []
     sound-low = sound-is (low b) n p (subst NoCase (sym refusals-low) h)
 
     keys-test : eqb (pttOf (heardBench b n (messageIn p)) n) test ≡ eqb (messageIn p .ptt) test
-    keys-test = ap (λ (s : Seat). eqb (s .heard .field .ptt) test) (seat-heard b n (messageIn p) passed) ∙ (unfold heardSeat fieldHeard in refl)
+    keys-test = ap (λ (s : Seat). eqb (s .heard .field .ptt) test) (seat-heard b n p passed) ∙ (unfold heardSeat fieldHeard in refl)
 
     sound-by-sent : isSent (low b) n (messageIn p) ≡ isSent b n (messageIn p) → audioIn (packetSaid (low b) n p) p ≡ audioIn (packetSaid b n p) p
-    sound-by-sent e = sound-low ∙ ap (λ (t : Bool). soundIf t p) e ∙ sym (sound-is b n p h)
+    sound-by-sent e = sound-low ∙ ap (λ (t : Bool). cond t (payload p) []) e ∙ sym (sound-is b n p h)
 
     up-next : liveAboveTest (heardBench b n (messageIn p)) seatNumbers ≡ true → Up (heardBench b n (messageIn p) .setup) (keyings (heardBench b n (messageIn p)))
-    up-next u = up-is (heardBench b n (messageIn p)) (held-heard b n (messageIn p) passed i) u
+    up-next u = up-is (heardBench b n (messageIn p)) (held-heard b n p passed i) u
 
     -- the same audio, but at other times not that of a Test keying
     sound-same : (isTest up : Bool) → eqb (messageIn p .ptt) test ≡ isTest → liveAboveTest (heardBench b n (messageIn p)) seatNumbers ≡ up
         → cond (isTest && not up) [] (audioIn (packetSaid (low b) n p) p) ≡ cond (isTest && not up) [] (audioIn (packetSaid b n p) p)
-    sound-same true true e u = sound-by-sent (sent-same b n (messageIn p) i live passed (up-next u))
+    sound-same true true e u = sound-by-sent (sent-same b n p i live passed (up-next u))
     sound-same true false e u = refl
-    sound-same false up e u = sound-by-sent (sent-not-test b n (messageIn p) i live passed e)
+    sound-same false up e u = sound-by-sent (sent-not-test b n p i live passed e)
 
     -- and the rest of the answer
     missing-low : hearing (low b) n p .missing ≡ hearing b n p .missing
@@ -82,7 +68,7 @@ module _ (b : Bench) (n : ℕ) (p : List ℕ) (i : Held b) (live : lesson (b .se
 
     standby-low : hearing (low b) n p .standby ≡ hearing b n p .standby
     unfolding hearing
-    standby-low = ap (λ (x : Bench). x .standby) (heard-low b n (messageIn p) live (passed .real)) ∙ (unfold low in refl)
+    standby-low = ap (λ (x : Bench). x .standby) (heard-low b n (messageIn p) live (passed .is-seat)) ∙ (unfold low in refl)
 
     answer-low : (isTest up : Bool) → eqb (pttOf (heardBench b n (messageIn p)) n) test ≡ isTest → liveAboveTest (heardBench b n (messageIn p)) seatNumbers ≡ up
         → fixed (b .setup) up isTest (told (packetSaid (low b) n p) p (hearing (low b) n p))
@@ -96,7 +82,7 @@ module _ (b : Bench) (n : ℕ) (p : List ℕ) (i : Held b) (live : lesson (b .se
       match-judged (b .setup) (packet n p) b (heardBench b n (messageIn p)) (heardBench (low b) n (messageIn p))
       (packetRefusals (b .setup) n (b .seats) p) (packetRefusals (low b .setup) n (low b .seats) p) (hearing b n p) (hearing (low b) n p)
       (told (packetSaid b n p) p) (told (packetSaid (low b) n p) p) refusals-low
-      (λ h. record { bench = heard-low b n (messageIn p) live (passed h .real); answer = ap accepted (answer-low h _ _ refl refl) })
+      (λ h. record { bench = heard-low b n (messageIn p) live (passed h .is-seat); answer = ap accepted (answer-low h _ _ refl refl) })
 
 -- ---- a lesson seat's packet: "no lesson audio is sent"
 
@@ -104,9 +90,9 @@ module _ (b : Bench) (n : ℕ) (p : List ℕ) (i : Held b) (hidden : lesson (b .
   lesson-unsent : NoCase (packetRefusals (b .setup) n (b .seats) p) → liveAboveTest (heardBench b n (messageIn p)) seatNumbers ≡ true
       → isSent b n (messageIn p) ≡ false
   lesson-unsent h up =
-      let passed = heeded (b .setup) n (b .seats) p h in
-      let next-held = held-heard b n (messageIn p) passed i in
-      sent-is b n (messageIn p) (passed .real)
+      let passed = packet-accepted (b .setup) n (b .seats) p h in
+      let next-held = held-heard b n p passed i in
+      sent-is b n (messageIn p) (passed .is-seat)
       ∙ lesson-off-air (heardBench b n (messageIn p) .setup) (heardBench b n (messageIn p) .seats) (keyings (heardBench b n (messageIn p)))
       (keyings-test-at-most (heardBench b n (messageIn p)) next-held) (up-is (heardBench b n (messageIn p)) next-held up) n (unfold heardBench in hidden)
 
@@ -118,4 +104,4 @@ module _ (b : Bench) (n : ℕ) (p : List ℕ) (i : Held b) (hidden : lesson (b .
       (λ a. liveAboveTest (settled a b (heardBench b n (messageIn p))) seatNumbers ≡ true → mapped (told (packetSaid b n p) p) a ≡ accepted (heard m r s sound) → sound ≡ [])
       (packetRefusals (b .setup) n (b .seats) p) (hearing b n p) (λ k c u q. cc)
       (λ h u q. let audio : audioIn (packetSaid b n p) p ≡ sound = cc in
-      sym audio ∙ sound-is b n p h ∙ ap (λ (t : Bool). soundIf t p) (lesson-unsent h u) ∙ no-sound p) up e
+      sym audio ∙ sound-is b n p h ∙ ap (λ (t : Bool). cond t (payload p) []) (lesson-unsent h u)) up e

@@ -4,13 +4,10 @@ use mathlib.Core.Path.{_≡_, refl, sym, ap, ap₂, _∙_}
 use mathlib.Core.Bool.{Bool, true, false, cond, _&&_}
 use mathlib.Core.List.{List}
 use native.Mathlib.Omega.{arith}
-use lib.Dec.{ltb, eqb, lit≤}
-use lib.ListN.{length, length-append, getD, set}
-use borrow.Author.Tests.{ltb-false}
+use lib.ListN.{length, getD}
 use Rattle.base.specs.Bytes.{bit}
-use Rattle.base.proofs.Truths.{or-right}
 use Rattle.packet.specs.Refusals.{NoCase, accepted}
-use Rattle.packet.specs.Writing.{fromRx, risingItems, itemBytes, wordsOf, headOf, encode}
+use Rattle.packet.specs.Writing.{fromRx, risingItems, fewestWords, encode}
 use Rattle.packet.specs.Items.{rssi}
 use Rattle.packet.specs.Quality.{quality}
 use Rattle.packet.specs.declared.message.SqiItem.the-variants as sqi
@@ -19,16 +16,19 @@ use Rattle.packet.specs.declared.message.Items.{Items}
 use Rattle.packet.specs.declared.message.Message.{Message}
 use Rattle.packet.specs.declared.message.Rx.{Rx}
 use Rattle.seats.specs.Record.{seatNumbers, noSuchSeat, seatOf, lesson, withSequence}
-use Rattle.air.specs.Air.{typeOf, topRank, smallest, leaders, keyings, airOf, benchAir}
+use Rattle.air.specs.Air.{benchAir}
 use Rattle.bench.specs.Reporting.{squTold, sctTold, sqiTold, sideTold, reportOf, reportBytes, reportRefusals, reportSaid, reportedBench}
 use Rattle.bench.specs.Step.{report, written, step}
 use Rattle.seats.specs.declared.record.Seat.{Seat}
 use Rattle.seats.specs.declared.record.Bench.{Bench}
 use Rattle.demands.specs.Apart.{liveAboveTest, blotted, fixed}
 use Rattle.demands.proofs.Blanking.{set-elsewhere}
-use Rattle.demands.proofs.Written.{itemsFor, afterFieldOf}
 use Rattle.demands.proofs.Blotted.{calm, blotted-calm}
+use Rattle.packet.proofs.Written.{encoded-length}
 use Rattle.seats.proofs.Seats.{lesson-flag}
+use Rattle.air.proofs.Bounds.{ptt-most}
+use Rattle.bench.proofs.Accepted.{report-accepted}
+use Rattle.bench.proofs.ReportLaws.{id-told-most}
 use Rattle.demands.proofs.WithoutLessons.{low, seat-low, sequence-low}
 use Rattle.demands.proofs.LessonSeats.{Held}
 use Rattle.demands.proofs.BenchAir.{up-is, air-low}
@@ -36,25 +36,13 @@ use Rattle.demands.proofs.LiveCalls.{Match, match-judged}
 
 -- ---- the told type and id fit their bits
 
-either-fits : {k : ℕ} (t : Bool) (a c : ℕ) → a ≤ k → c ≤ k → cond t a c ≤ k
-either-fits true a c h g = h
-either-fits false a c h g = g
-
-type-fits : (r : ℕ) → typeOf r ≤ 5
-type-fits r = search (either-fits, lit≤, tt) depth 12
-
-smallest-fits : (set : List ℕ) → smallest set seatNumbers ≤ 8
-unfolding smallest
-smallest-fits set = search (either-fits, lit≤, tt) depth 12
-
 type-told : (b : Bench) (n timestamp : ℕ) → reportOf b n timestamp .ptt ≤ 5
-unfolding reportOf benchAir airOf
-type-told b n timestamp = type-fits (topRank (keyings b))
+unfolding reportOf
+type-told b n timestamp = ptt-most b
 
 id-told : (b : Bench) (n timestamp : ℕ) → noSuchSeat n ≡ false → reportOf b n timestamp .id ≤ 63
-unfolding reportOf benchAir airOf
-id-told b n timestamp real = either-fits (getD (benchAir b .leads) (n - 1) false) n (smallest (leaders (b .setup) (keyings b)) seatNumbers)
-    (omega (arith, ltb-false 8 n (or-right (eqb n 0) (ltb 8 n) real))) (omega (arith, smallest-fits (leaders (b .setup) (keyings b))))
+unfolding reportOf
+id-told b n timestamp real = omega (arith, id-told-most b n real)
 
 -- ---- the length of a report: by signals, kind of radio and audio alone
 
@@ -64,21 +52,21 @@ reportLength signals pair sound = 20 + 4 * bit (squTold signals && pair) + sound
 itemsTold : (squ pair standby : Bool) (q : ℕ) → Items
 itemsTold squ pair standby q = record { sqi = cond squ (sqi.Is q rssi) sqi.Absent; climax = climax.Absent; side = sideTold pair standby }
 
-words-long : (squ pair standby : Bool) (q : ℕ) → length (afterFieldOf (risingItems (itemsTold squ pair standby q))) ≡ 2 + 4 * bit (squ && pair)
-unfolding risingItems itemBytes itemsTold
-words-long true true true q = refl
-words-long true true false q = refl
-words-long true false standby q = refl
-words-long false true true q = refl
-words-long false true false q = refl
-words-long false false standby q = refl
+words-told : (squ pair standby : Bool) (q : ℕ) → fewestWords (risingItems (itemsTold squ pair standby q)) ≡ 1 + bit (squ && pair)
+unfolding risingItems itemsTold
+words-told true true true q = refl
+words-told true true false q = refl
+words-told true false standby q = refl
+words-told false true true q = refl
+words-told false true false q = refl
+words-told false false standby q = refl
 
 pub report-long : (b : Bench) (n timestamp : ℕ) (sound : List ℕ)
     → length (reportBytes b n timestamp sound) ≡ reportLength (b .signals) (b .setup .pair) (length sound)
-unfolding reportBytes reportOf encode headOf wordsOf itemsTold
+unfolding reportBytes reportOf itemsTold
 report-long b n timestamp sound =
-    let words = words-long (squTold (b .signals)) (b .setup .pair) (b .standby) (quality (b .level)) in
-    omega (arith, length-append (afterFieldOf (itemsFor (fromRx (reportOf b n timestamp)))) sound)
+    let words = words-told (squTold (b .signals)) (b .setup .pair) (b .standby) (quality (b .level)) in
+    omega (arith, encoded-length (b .setup .ext) (fromRx (reportOf b n timestamp)) sound)
 
 -- ---- the report without the three
 
@@ -152,8 +140,7 @@ module _ (b : Bench) (n timestamp : ℕ) (sound : List ℕ) (room : ℕ) (i : He
   told-low real false e = blotted-low b n timestamp live real sound
 
   real-seat : NoCase (reportRefusals b n timestamp sound room) → noSuchSeat n ≡ false
-  unfolding reportRefusals
-  real-seat h = h .0
+  real-seat h = report-accepted b n timestamp sound room h .is-seat
 
   pub match-report : Match (b .setup) (report n timestamp sound room) (step b (report n timestamp sound room)) (step (low b) (report n timestamp sound room))
   unfolding step reportSaid fixed

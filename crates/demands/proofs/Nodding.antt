@@ -14,7 +14,8 @@ use Rattle.seats.specs.declared.record.Bench.{Bench}
 use Rattle.demands.specs.Apart.{named, withoutLessons, liveAboveTest, fixed, compared}
 use Rattle.demands.specs.WrongBenches.{nodding, isLater, nod, wrong, afterBy, ApartAlone}
 use Rattle.demands.proofs.WithoutLessons.{low, seat-low}
-use Rattle.demands.proofs.LessonSeats.{Held, held-step, held-fresh, setup-kept}
+use Rattle.demands.proofs.SeatAfter.{setup-kept}
+use Rattle.demands.proofs.LessonSeats.{Held, held-step, held-fresh}
 use Rattle.demands.proofs.LessonCalls.{unseen}
 use Rattle.demands.proofs.Apart.{ran, matched, its-lesson, low-alike, lessons-apart}
 

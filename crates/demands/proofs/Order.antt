@@ -67,3 +67,7 @@ among-counted (m ∷ l) n = by-case (eqb m n) (among-counted l n)
     by-case : (t : Bool) → among l n ≡ ltb 0 (count n l) → t || among l n ≡ ltb 0 (bit t + count n l)
     by-case true rest = sym (lt-ltb 0 (1 + count n l) (omega arith))
     by-case false rest = let same : count n l ≡ 0 + count n l = omega arith in rest ∙ ap (ltb 0) same
+
+-- so who stands in the order stays in it
+pub among-after : (n j : ℕ) (old new : Field) (l : List ℕ) → among (orderAfter n old new l) j ≡ among l j
+among-after n j old new l = among-counted _ j ∙ ap (ltb 0) (count-order-after n old new l j) ∙ sym (among-counted l j)

@@ -4,7 +4,6 @@ use mathlib.Core.Path.{_≡_, refl}
 use mathlib.Core.Bool.{Bool, true, false, cond}
 use mathlib.Core.List.{List, _++_}
 use native.Mathlib.Omega.{arith}
-use lib.ListN.{length}
 use lib.Dec.{leb, eqb}
 use borrow.Author.Tests.{leb-true}
 use Rattle.packet.specs.Items.{Item, sqiAllowed, itemAllowed, allAllowed, hasType, noTypeTwice, sqiAmong, climaxAmong, sideAmong, kept}
@@ -21,9 +20,9 @@ use Rattle.base.proofs.Truths.{and-left, and-right}
 use Rattle.demands.specs.Plain.{Rising}
 use Rattle.demands.proofs.ItemsBack.{AllWrite}
 
--- no type twice, by rising type, no more than there are types
+-- no type twice, by rising type
 abbrev Orderly : List Item → Type 0
-Orderly is = (noTypeTwice is ≡ true) × Rising is × (length is ≤ 3)
+Orderly is = (noTypeTwice is ≡ true) × Rising is
 
 -- ---- the value bytes
 
@@ -96,18 +95,18 @@ sqi-kept (sqi.Is q m) c e h k = simp (sqi-value q m h .0, sqi-value q m h .1, cl
 
 orderly : (s : SqiItem) (c : ClimaxItem) (e : SideItem) → Orderly (sqiListed s ++ climaxListed c ++ sideListed e)
 unfolding noTypeTwice hasType
-orderly sqi.Absent climax.Absent side.Absent = (refl, tt, omega arith)
-orderly sqi.Absent climax.Absent side.Main = (refl, tt, omega arith)
-orderly sqi.Absent climax.Absent side.Standby = (refl, tt, omega arith)
-orderly sqi.Absent (climax.Is v) side.Absent = (refl, tt, omega arith)
-orderly sqi.Absent (climax.Is v) side.Main = (refl, omega arith, omega arith)
-orderly sqi.Absent (climax.Is v) side.Standby = (refl, omega arith, omega arith)
-orderly (sqi.Is q m) climax.Absent side.Absent = (refl, tt, omega arith)
-orderly (sqi.Is q m) climax.Absent side.Main = (refl, omega arith, omega arith)
-orderly (sqi.Is q m) climax.Absent side.Standby = (refl, omega arith, omega arith)
-orderly (sqi.Is q m) (climax.Is v) side.Absent = (refl, omega arith, omega arith)
-orderly (sqi.Is q m) (climax.Is v) side.Main = (refl, omega arith, omega arith)
-orderly (sqi.Is q m) (climax.Is v) side.Standby = (refl, omega arith, omega arith)
+orderly sqi.Absent climax.Absent side.Absent = (refl, tt)
+orderly sqi.Absent climax.Absent side.Main = (refl, tt)
+orderly sqi.Absent climax.Absent side.Standby = (refl, tt)
+orderly sqi.Absent (climax.Is v) side.Absent = (refl, tt)
+orderly sqi.Absent (climax.Is v) side.Main = (refl, omega arith)
+orderly sqi.Absent (climax.Is v) side.Standby = (refl, omega arith)
+orderly (sqi.Is q m) climax.Absent side.Absent = (refl, tt)
+orderly (sqi.Is q m) climax.Absent side.Main = (refl, omega arith)
+orderly (sqi.Is q m) climax.Absent side.Standby = (refl, omega arith)
+orderly (sqi.Is q m) (climax.Is v) side.Absent = (refl, omega arith)
+orderly (sqi.Is q m) (climax.Is v) side.Main = (refl, omega arith)
+orderly (sqi.Is q m) (climax.Is v) side.Standby = (refl, omega arith)
 
 in-tx : (c : ClimaxItem) (e : SideItem) → climaxWritable c ≡ true → allAllowed Tx (climaxListed c ++ sideListed e) ≡ true
 unfolding allAllowed itemAllowed
@@ -152,7 +151,3 @@ rising-in-tx k e h = simp e (in-tx (k .climax) (k .side) h)
 pub rising-in-rx : (k : Items) → k .climax ≡ climax.Absent → sqiWritable (k .sqi) ≡ true → allAllowed Rx (risingItems k) ≡ true
 unfolding risingItems
 rising-in-rx k e h = simp e (in-rx (k .sqi) (k .side) h)
-
-pub at-most-three : (k : Items) → length (risingItems k) ≤ 3
-unfolding risingItems
-at-most-three k = orderly (k .sqi) (k .climax) (k .side) .2

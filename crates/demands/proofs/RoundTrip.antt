@@ -17,8 +17,9 @@ use Rattle.packet.specs.declared.message.Message.{Message}
 use Rattle.demands.specs.Plain.{itemsHere}
 use Rattle.demands.specs.RoundTrip.{Narrow, RoundTripTx, RoundTripRx, PlainWritten}
 use Rattle.demands.proofs.ItemsBack.{AllWrite, list-back, allowed-back}
-use Rattle.demands.proofs.RisingItems.{rising-writes, rising-kept, rising-once, rising-rises, rising-in-tx, rising-in-rx, at-most-three}
+use Rattle.demands.proofs.RisingItems.{rising-writes, rising-kept, rising-once, rising-rises, rising-in-tx, rising-in-rx}
 use Rattle.packet.proofs.Judged.{accepts}
+use Rattle.packet.proofs.Words.{at-most-three}
 use Rattle.demands.proofs.ReadBack.{no-case, message-made}
 use Rattle.demands.proofs.Written.{Writable, writable-is, bit-set, SaysOf, field-written, allowed-in-tx, allowed-in-rx, kind-allowed, sound-allowed, zerosFor, afterFieldOf, few-words, itemsFor, fieldFor, Written, written}
 

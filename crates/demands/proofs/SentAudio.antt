@@ -12,16 +12,17 @@ use Rattle.packet.specs.Packet.{test}
 use Rattle.packet.specs.declared.message.Tx.{Tx}
 use Rattle.seats.specs.Record.{seatNumbers, noSuchSeat, closedSeat, seatOf, lesson}
 use Rattle.air.specs.Air.{rank, keyed, takesPart, Keying, keyingsOf, keyings, onAir, among, airOf, benchAir}
-use Rattle.bench.specs.Hearing.{fieldHeard, heardSeat, heardBench, isSent}
+use Rattle.bench.specs.Hearing.{messageIn, fieldHeard, heardSeat, heardBench, isSent}
 use Rattle.seats.specs.declared.record.Seat.{Seat}
 use Rattle.seats.specs.declared.record.Bench.{Bench}
 use Rattle.air.specs.declared.air.Air.{Air}
 use Rattle.demands.specs.Apart.{pttOf}
 use Rattle.demands.proofs.Blanking.{set-elsewhere}
+use Rattle.bench.proofs.Accepted.{PacketAccepted}
 use Rattle.seats.proofs.Seats.{each-seat, lesson-flag, seat-of-place}
 use Rattle.demands.proofs.WithoutLessons.{low, live-seat, order-live}
 use Rattle.demands.proofs.LiveAir.{keyings-low, Up, seatsOf, off-air, no-keying-left}
-use Rattle.demands.proofs.LessonSeats.{Held, Heeded, held-heard}
+use Rattle.demands.proofs.LessonSeats.{Held, held-heard}
 use Rattle.demands.proofs.BenchAir.{up-seat, air-low}
 
 -- ---- the seat after its packet
@@ -31,12 +32,13 @@ put-open [] k s e = absurd (false≢true e)
 put-open (x ∷ l) zero s e = refl
 put-open (x ∷ l) (suc k) s e = put-open l k s e
 
-pub seat-heard : (b : Bench) (n : ℕ) (m : Tx) → Heeded (b .setup) n (seatOf (b .seats) n) m
-    → seatOf (heardBench b n m .seats) n ≡ heardSeat (seatOf (b .seats) n) m
+pub seat-heard : (b : Bench) (n : ℕ) (p : List ℕ) → PacketAccepted (b .setup) n (b .seats) p
+    → seatOf (heardBench b n (messageIn p) .seats) n ≡ heardSeat (seatOf (b .seats) n) (messageIn p)
 unfolding heardBench
-seat-heard b n m h =
-    seat-of-place (set (b .seats) (n - 1) (heardSeat (seatOf (b .seats) n) m)) n (h .real)
-    ∙ put-open (b .seats) (n - 1) (heardSeat (seatOf (b .seats) n) m) (ap (λ (s : Seat). s .opened) (sym (seat-of-place (b .seats) n (h .real))) ∙ h .is-open)
+seat-heard b n p h =
+    let new = heardSeat (seatOf (b .seats) n) (messageIn p) in
+    seat-of-place (set (b .seats) (n - 1) new) n (h .is-seat)
+    ∙ put-open (b .seats) (n - 1) new (ap (λ (s : Seat). s .opened) (sym (seat-of-place (b .seats) n (h .is-seat))) ∙ h .was-open)
 
 pub heard-low : (b : Bench) (n : ℕ) (m : Tx) → lesson (b .setup) n ≡ false → noSuchSeat n ≡ false → heardBench (low b) n m ≡ low (heardBench b n m)
 unfolding heardBench low
@@ -86,15 +88,18 @@ part-above healthy s other h =
 
 -- ---- a live seat's packet
 
-module _ (b : Bench) (n : ℕ) (m : Tx) (i : Held b) (live : lesson (b .setup) n ≡ false) (h : Heeded (b .setup) n (seatOf (b .seats) n) m) where
+module _ (b : Bench) (n : ℕ) (p : List ℕ) (i : Held b) (live : lesson (b .setup) n ≡ false) (h : PacketAccepted (b .setup) n (b .seats) p) where
+  abbrev m : Tx
+  m = messageIn p
+
   low-sent : isSent (low b) n m ≡ getD (benchAir (low (heardBench b n m)) .on) (n - 1) false
   unfolding isSent
-  low-sent = ap (λ (x : Bench). getD (benchAir x .on) (n - 1) false) (heard-low b n m live (h .real))
+  low-sent = ap (λ (x : Bench). getD (benchAir x .on) (n - 1) false) (heard-low b n m live (h .is-seat))
 
   -- while a live keying above Test is up
   pub sent-same : Up (heardBench b n m .setup) (keyings (heardBench b n m)) → isSent (low b) n m ≡ isSent b n m
   unfolding isSent
-  sent-same up = low-sent ∙ ap (λ (a : Air). getD (a .on) (n - 1) false) (air-low (heardBench b n m) (held-heard b n m h i) up)
+  sent-same up = low-sent ∙ ap (λ (a : Air). getD (a .on) (n - 1) false) (air-low (heardBench b n m) (held-heard b n p h i) up)
 
   -- a seat that takes no part has nothing sent
   off : takesPart (b .healthy) (seatOf (heardBench b n m .seats) n) ≡ false → among (seatsOf (keyings (heardBench b n m))) n ≡ false
@@ -102,18 +107,18 @@ module _ (b : Bench) (n : ℕ) (m : Tx) (i : Held b) (live : lesson (b .setup) n
   off e = no-part (b .healthy) _ n e _
 
   not-sent : takesPart (b .healthy) (seatOf (heardBench b n m .seats) n) ≡ false → isSent b n m ≡ false
-  not-sent e = sent-is b n m (h .real) ∙ off-air (heardBench b n m .setup) n (keyings (heardBench b n m)) (off e)
+  not-sent e = sent-is b n m (h .is-seat) ∙ off-air (heardBench b n m .setup) n (keyings (heardBench b n m)) (off e)
 
   low-not-sent : takesPart (b .healthy) (seatOf (heardBench b n m .seats) n) ≡ false → isSent (low b) n m ≡ false
   low-not-sent e =
-      sent-is (low b) n m (h .real)
-      ∙ ap (λ (x : Bench). among (onAir (x .setup) (keyings x)) n) (heard-low b n m live (h .real))
+      sent-is (low b) n m (h .is-seat)
+      ∙ ap (λ (x : Bench). among (onAir (x .setup) (keyings x)) n) (heard-low b n m live (h .is-seat))
       ∙ ap (λ (ks : List Keying). among (onAir (low (heardBench b n m) .setup) ks) n) (keyings-low (heardBench b n m))
       ∙ off-air (low (heardBench b n m) .setup) n _ (no-keying-left (heardBench b n m .setup) n (keyings (heardBench b n m)) (off e))
 
   above : eqb (m .ptt) test ≡ false → takesPart (b .healthy) (seatOf (heardBench b n m .seats) n) ≡ true → 1 < rank (pttOf (heardBench b n m) n)
   above other part =
-      subst (λ (s : Seat). takesPart (b .healthy) s ≡ true → 1 < rank (s .heard .field .ptt)) (sym (seat-heard b n m h))
+      subst (λ (s : Seat). takesPart (b .healthy) s ≡ true → 1 < rank (s .heard .field .ptt)) (sym (seat-heard b n p h))
       (λ e. unfold heardSeat fieldHeard in part-above (b .healthy) (heardSeat (seatOf (b .seats) n) m) other e) part
 
   pub sent-not-test : eqb (m .ptt) test ≡ false → isSent (low b) n m ≡ isSent b n m
@@ -121,5 +126,5 @@ module _ (b : Bench) (n : ℕ) (m : Tx) (i : Held b) (live : lesson (b .setup) n
   sent-not-test other = by-part (takesPart (b .healthy) (seatOf (heardBench b n m .seats) n)) refl
     where
       by-part : (t : Bool) → takesPart (b .healthy) (seatOf (heardBench b n m .seats) n) ≡ t → isSent (low b) n m ≡ isSent b n m
-      by-part true e = sent-same (up-seat (heardBench b n m) (held-heard b n m h i) n live e (above other e))
+      by-part true e = sent-same (up-seat (heardBench b n m) (held-heard b n p h i) n live e (above other e))
       by-part false e = low-not-sent e ∙ sym (not-sent e)

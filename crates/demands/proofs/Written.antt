@@ -1,25 +1,25 @@
 -- What the writer puts together for a message that it accepts, part by part.
 use Prim.Native.Nat.{ℕ, _+_, _*_, _-_, _<_, _≤_}
 use mathlib.Core.Path.{_≡_, refl, ap, _∙_}
-use mathlib.Core.Bool.{Bool, true, false, cond, not, _&&_, _||_}
-use mathlib.Core.List.{List, [], _∷_, _++_}
+use mathlib.Core.Bool.{Bool, true, false, cond, _&&_, _||_}
+use mathlib.Core.List.{List, _++_}
 use native.Mathlib.Omega.{arith}
 use lib.ListN.{length, take, drop, replicate, length-append, length-replicate}
 use lib.Seq.{take-at}
-use lib.Dec.{ltb, leb, eqb}
-use borrow.Author.Tests.{leb-true, le-leb}
+use lib.Dec.{leb, eqb}
+use borrow.Author.Tests.{leb-true, le-leb, not-false}
 use Rattle.base.specs.Bytes.{isSet, bit}
 use Rattle.packet.specs.Packet.{audioLength, payloadAllowed, fieldAllowed}
 use Rattle.packet.specs.Items.{Item, someItem}
-use Rattle.packet.specs.Refusals.{_if_, Answer, accepted, judged}
+use Rattle.packet.specs.Refusals.{Answer}
 use Rattle.packet.specs.Writing.{risingItems, itemBytes, fewestWords, fieldOf, wordsOf, kindFor, headOf, encode, sqiWritable, climaxWritable, writable, writerRefusals, write, filled, buffered}
 use Rattle.packet.specs.declared.message.Direction.the-variants.{Tx, Rx}
 use Rattle.packet.specs.declared.message.Message.{Message}
 use Rattle.demands.specs.RoundTrip.{Narrow, WrittenAtFront}
 use Rattle.demands.proofs.Numbers.{FieldSays, field-says}
-use Rattle.demands.proofs.ItemsBack.{length-item-bytes}
 use Rattle.base.proofs.Truths.{and-left, and-right}
-use Rattle.demands.proofs.RisingItems.{at-most-three}
+use Rattle.packet.proofs.Judged.{meets-none}
+use Rattle.packet.proofs.Words.{item-bytes-length, at-most-three}
 use Rattle.demands.proofs.Parts.{HasParts, has-parts}
 
 pub record Writable (m : Message) (n : ℕ) : Type 0 where
@@ -104,7 +104,7 @@ abbrev pub afterFieldOf : List Item → List ℕ
 afterFieldOf is = itemBytes is ++ replicate (zerosFor is) 0
 
 words-filled : (is : List Item) → length (afterFieldOf is) + 2 ≡ 4 * fewestWords is
-words-filled is = simp (length-append, length-replicate, length-item-bytes) (omega arith)
+words-filled is = simp (length-append, length-replicate, item-bytes-length) (omega arith)
 
 pub few-words : (is : List Item) → length is ≤ 3 → (1 ≤ fewestWords is) × (fewestWords is ≤ 15)
 few-words is h = omega arith
@@ -137,10 +137,5 @@ pub written-at-front : WrittenAtFront
 unfolding write writerRefusals buffered
 written-at-front ext m sound buffer n e =
     let p = encode ext m sound in
-    let passed = by-tests (writable m (length sound)) (ltb (length buffer) (length p)) (length p) e in
-    (passed .0, ap (λ (a : Answer ℕ). take n (filled a p buffer)) e ∙ take-at p (drop n buffer) n (passed .1))
-  where
-    by-tests : (fine short : Bool) (long : ℕ) → judged (27 if not fine ∷ 26 if short ∷ []) long ≡ accepted n → (fine ≡ true) × (long ≡ n)
-    by-tests true true long h = (cc, cc)
-    by-tests true false long h = (refl, cc)
-    by-tests false short long h = (cc, cc)
+    let met = meets-none (writerRefusals ext m sound (length buffer)) (length p) n e in
+    (not-false (writable m (length sound)) (met .0 .0), ap (λ (a : Answer ℕ). take n (filled a p buffer)) e ∙ take-at p (drop n buffer) n (met .1))

@@ -2,7 +2,7 @@
 use Prim.Native.Nat.{ℕ, suc, _+_, _*_, _-_, _/_, _%_, _≤_}
 use mathlib.Core.Path.{_≡_, refl, ap}
 use mathlib.Core.Bool.{not}
-use mathlib.Core.List.{List, [], _∷_, _++_}
+use mathlib.Core.List.{List, [], _∷_}
 use native.Mathlib.Omega.{arith}
 use borrow.Author.Tests.{ne-eqb}
 use lib.Dec.{eqb}
@@ -62,7 +62,7 @@ module _ (m : Message) where
   pub words-are : eightBytes (fieldOf m is) (m .items .sqi) (m .items .climax) (m .items .side) ≡ padded 8 (wordsOf m is)
   words-are = by-items (m .items .sqi) (m .items .climax) (m .items .side) refl
 
-item-bytes-length : (is : List Item) → length (itemBytes is) ≡ 2 * length is
+pub item-bytes-length : (is : List Item) → length (itemBytes is) ≡ 2 * length is
 unfolding itemBytes
 item-bytes-length [] = refl
 item-bytes-length (i ∷ is) = let h : length (itemBytes is) ≡ 2 * length is = item-bytes-length is in omega arith
@@ -72,8 +72,9 @@ unfolding wordsOf
 words-length m is = simp (length-append, length-replicate, item-bytes-length) (omega arith)
 
 -- there are three types
-at-most-three : (s : SqiItem) (c : ClimaxItem) (d : SideItem) → length (sqiListed s ++ climaxListed c ++ sideListed d) ≤ 3
-at-most-three s c d = simp length-append (omega (arith, of-sqi s, of-climax c, of-side d))
+pub at-most-three : (k : Items) → length (risingItems k) ≤ 3
+unfolding risingItems
+at-most-three k = simp length-append (omega (arith, of-sqi (k .sqi), of-climax (k .climax), of-side (k .side)))
   where
     of-sqi : (s : SqiItem) → length (sqiListed s) ≤ 1
     of-sqi sqi.Absent = omega arith
@@ -89,8 +90,7 @@ at-most-three s c d = simp length-append (omega (arith, of-sqi s, of-climax c, o
     of-side side.Standby = omega arith
 
 two-words : (k : Items) → 4 * fewestWords (risingItems k) ≤ 8
-unfolding risingItems
-two-words k = omega (arith, at-most-three (k .sqi) (k .climax) (k .side))
+two-words k = omega (arith, at-most-three k)
 
 -- of the eight bytes, the words
 pub words-cut : (m : Message) → partOf 0 (4 * fewestWords (risingItems (m .items))) (padded 8 (wordsOf m (risingItems (m .items)))) ≡ wordsOf m (risingItems (m .items))

@@ -14,18 +14,18 @@ use Rattle.packet.specs.Writing.{risingItems, fewestWords, headOf, encod
 use Rattle.packet.specs.declared.message.Message.{Message}
 use Rattle.packet.proofs.Words.{words-length}
 
-module _ (ext : ℕ) (m : Message) (sound out : List ℕ) where
-  encoded-length : length (encode ext m sound) ≡ 16 + 4 * fewestWords (risingItems (m .items)) + length sound
-  unfolding encode headOf
-  encoded-length = simp (length-append, words-length) (omega arith)
+pub encoded-length : (ext : ℕ) (m : Message) (sound : List ℕ) → length (encode ext m sound) ≡ 16 + 4 * fewestWords (risingItems (m .items)) + length sound
+unfolding encode headOf
+encoded-length ext m sound = simp (length-append, words-length) (omega arith)
 
+module _ (ext : ℕ) (m : Message) (sound out : List ℕ) where
   pub unwritable : writable m (length sound) ≡ false → (write ext m sound (length out) ≡ refused 27 0) × (buffered ext m sound out ≡ out)
   unfolding write writerRefusals buffered
   unwritable e = (simp e, simp e)
 
   module _ (n : ℕ) (long : n ≡ 16 + 4 * fewestWords (risingItems (m .items)) + length sound) (fine : writable m (length sound) ≡ true) where
     all : n ≡ length (encode ext m sound)
-    all = long ∙ sym encoded-length
+    all = long ∙ sym (encoded-length ext m sound)
 
     pub too-short : leb n (length out) ≡ false → (write ext m sound (length out) ≡ refused 26 0) × (buffered ext m sound out ≡ out)
     unfolding write writerRefusals buffered

@@ -19,7 +19,7 @@ use Rattle.seats.specs.declared.record.Bench.{Bench}
 use Rattle.seats.specs.declared.opening.Request.{Request}
 use Rattle.seats.specs.declared.opening.OpenAnswer.{OpenAnswer}
 use Rattle.seats.specs.declared.opening.OpenAnswer.the-variants as opening
-use Rattle.seats.proofs.Accepted.{close-accepted}
+use Rattle.seats.proofs.Accepted.{open-accepted, close-accepted}
 use Rattle.seats.proofs.RecordLaws.{recordCases}
 
 -- ---- the call type
@@ -116,11 +116,8 @@ seat-there n seats e said = close-accepted n seats (meets-none (closeRefusals n 
 
 module _ (b : Bench) (n : ℕ) (r : Request) (a : OpenAnswer) (said : openAnswer a ≡ openSaid b n r) where
   pub opened-seat : (id : ℕ) → a ≡ opening.Opened id → noSuchSeat n ≡ false
-  opened-seat id e = by-test (noSuchSeat n) refl
-    where
-      by-test : (t : Bool) → t ≡ noSuchSeat n → noSuchSeat n ≡ false
-      by-test true q = cc (open-13 b n r true q refl)
-      by-test false q = sym q
+  unfolding openSaid
+  opened-seat id e = open-accepted (b .setup) n (b .seats) r (meets-none (openRefusals (b .setup) n (b .seats) r) _ id (sym said ∙ ap openAnswer e) .0) .is-seat
 
   pub opened-moves : (id : ℕ) (next : Bench) → a ≡ opening.Opened id → next ≡ openedBench b n r → next ≡ settled (openSaid b n r) b (openedBench b n r)
   opened-moves id next e m = rw (← said, e) m

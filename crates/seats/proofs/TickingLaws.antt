@@ -1,7 +1,7 @@
 -- The cases of a tick, as the answers of the code ask for them.
 use Prim.Native.Nat.{ℕ, zero, _+_, _%_, _<_, _≤_}
-use mathlib.Core.Path.{_≡_, sym, _∙_}
-use mathlib.Core.Bool.{Bool, true, false}
+use mathlib.Core.Path.{_≡_, refl, sym, _∙_}
+use mathlib.Core.Bool.{Bool, true, false, cond}
 use mathlib.Core.List.{List, map}
 use native.Mathlib.Nat.{mod-lt}
 use native.Mathlib.Omega.{arith}
@@ -47,6 +47,16 @@ module _ (ms : ℕ) (s : Seat) where
   pub closed-untouched : s .opened ≡ false → s ≡ tickedSeat ms s
   unfolding tickedSeat
   closed-untouched o = simp o
+
+-- what holds of a closed seat, of one that grew older and of one that was closed before holds of a seat after a tick
+pub ticked-cases : (P : Seat → Type 0) (ms : ℕ) (s : Seat) → P closedSeat → (s .opened ≡ true → ms < s .left → P (aged ms s)) → P s → P (tickedSeat ms s)
+unfolding tickedSeat
+ticked-cases P ms s closes ages stays = by-tests (s .opened) (leb (s .left) ms) refl refl
+  where
+    by-tests : (opened silent : Bool) → s .opened ≡ opened → leb (s .left) ms ≡ silent → P (cond opened (cond silent closedSeat (aged ms s)) s)
+    by-tests true true e h = closes
+    by-tests true false e h = ages e (leb-false (s .left) ms h)
+    by-tests false silent e h = stays
 
 -- ---- the whole tick
 
