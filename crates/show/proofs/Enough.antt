@@ -4,17 +4,19 @@ use mathlib.Core.Path.{_≡_, refl, ap, sym, _∙_}
 use mathlib.Core.Bool.{Bool, true, false, not, cond, _||_}
 use mathlib.Core.List.{List, [], _∷_, _++_}
 use native.Mathlib.Omega.{arith}
-use borrow.Author.Tests.{le-ltb, leb-true, leb-false, ltb-false, ne-eqb}
+use borrow.Author.Tests.{le-ltb, leb-true, leb-false, ltb-false}
 use lib.Dec.{leb, ltb, eqb}
-use lib.ListN.{length, take, drop, length-drop}
+use lib.ListN.{length, take, drop}
 use lib.Seq.{getD-take, take-take, take-all, length-take-le}
 use Rattle.base.specs.Bytes.{byteAt, number16, bits, isSet, partOf}
+use Rattle.base.proofs.Truths.{or-right}
 use Rattle.packet.specs.Refusals.{Case, _if_, Answer, refused, causeOf, judged, mapped}
-use Rattle.packet.specs.Packet.{padding, marker, extensionAt, extensionType, wordsAt, wordCount, payloadAt, payload, payloadAllowed, payloadType, audio, r2s, audioLength, field, fieldAllowed, afterField, x}
+use Rattle.packet.specs.Packet.{padding, marker, extensionAt, extensionType, wordsAt, wordCount, payloadAt, payload, payloadAllowed, payloadType, audio, r2s, field, fieldAllowed, afterField, x}
 use Rattle.packet.specs.Items.{itemsAllowed}
 use Rattle.packet.specs.Reading.{readerRefusals, read, readTx, messageOf, asTx}
 use Rattle.packet.specs.declared.message.Direction.{Direction}
 use Rattle.packet.specs.declared.message.Direction.the-variants as direction
+use Rattle.packet.proofs.Passed.{payload-most, payload-length}
 use Rattle.words.specs.Text.{text}
 use Rattle.show.specs.Lines.{answerLine, decodedLine}
 
@@ -35,20 +37,14 @@ module _ {A B : Type 0} (f g : Answer A → B) (same : (n c : ℕ) → f (refuse
       by false later = later refl
 
 too-long : (kind n : ℕ) → 240 < n → not (payloadAllowed kind n) ≡ true
-unfolding payloadAllowed
-too-long kind n h = by (eqb kind audio)
+too-long kind n h = by (payloadAllowed kind n) refl
   where
-    by : (t : Bool) → not (cond t (audioLength n) (eqb n 0)) ≡ true
-    by true = simp (ne-eqb n 80 (omega arith), ne-eqb n 160 (omega arith), ne-eqb n 240 (omega arith))
-    by false = simp (ne-eqb n 0 (omega arith))
+    by : (t : Bool) → payloadAllowed kind n ≡ t → not t ≡ true
+    by true e = absurd (omega (arith, payload-most kind n e))
+    by false e = refl
 
 much-left : (p : List ℕ) → 377 ≤ length p → payloadAt p ≤ 136 → 240 < length (payload p)
-unfolding payload
-much-left p h k = simp length-drop (omega arith)
-
-neither : (b c : Bool) → b || c ≡ false → c ≡ false
-neither false c e = e
-neither true c e = absurd (let z : _≡_ {A = ℕ} 0 1 = cc in omega arith)
+much-left p h k = omega (arith, payload-length p)
 
 part-of-front : (count from n : ℕ) (p : List ℕ) → from + count ≤ n → take count (drop from (take n p)) ≡ take count (drop from p)
 part-of-front count zero n p h = take-take count n p (omega arith)
@@ -121,7 +117,7 @@ module _ (p : List ℕ) (long : 377 ≤ length p) where
       next (reaches (wordsAt front) (wordsAt p) (ap (λ (i : ℕ). i + 4) same-extension-at) (omega (arith, extension-near))) λ _.
       next (ap (λ (t : ℕ). not (eqb t ext)) same-type) λ _.
       next (ap (λ (w : ℕ). eqb w 0 || ltb 15 w) same-count) λ few.
-      let count : wordCount p ≤ 15 = ltb-false 15 (wordCount p) (neither (eqb (wordCount p) 0) (ltb 15 (wordCount p)) few) in
+      let count : wordCount p ≤ 15 = ltb-false 15 (wordCount p) (or-right (eqb (wordCount p) 0) (ltb 15 (wordCount p)) few) in
       next (reaches (payloadAt front) (payloadAt p) same-payload-at (omega (arith, extension-near))) λ _.
       next (ap (λ (f : ℕ). not (fieldAllowed d f)) same-field) λ _.
       next (ap (λ (f : ℕ). not (itemsAllowed d (x f) (afterField front))) same-field ∙ ap (λ (l : List ℕ). not (itemsAllowed d (x (field p)) l)) (same-after count)) λ _.
