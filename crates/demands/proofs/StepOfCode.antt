@@ -3,18 +3,17 @@ use Prim.Native.Nat.{ℕ}
 use mathlib.Core.Path.{_≡_, refl, ap, ap₂, _∙_}
 use mathlib.Core.List.{List}
 use denote.Ref.{now}
-use lib.ListN.{length, take, drop}
+use lib.ListN.{length, drop}
 use lib.Seq.{take-at}
 use Rattle.packet.specs.Refusals.{Answer, accepted, mapped}
 use Rattle.packet.specs.Writing.{filled}
 use Rattle.bench.specs.Answers.{packetAnswer}
 use Rattle.bench.specs.Hearing.{audioIn}
 use Rattle.bench.specs.Reporting.{reportRefusals, reportSaid, reportBytes, reportBuffer}
-use Rattle.bench.specs.Step.{own, done, told, ticked, written, step}
+use Rattle.bench.specs.Step.{own, done, told, written, step}
 use Rattle.bench.specs.declared.hearing.Hearing.{Hearing}
 use Rattle.seats.specs.declared.record.Bench.{Bench}
-use Rattle.seats.specs.declared.ticking.SeatSets.{SeatSets}
-use Rattle.demands.specs.StepOfCode.{did, heardWith, StepOfCode}
+use Rattle.demands.specs.StepOfCode.{did, wasDone, tickedSets, heardWith, inFront, StepOfCode}
 use Rattle.packet.proofs.Judged.{judged-one}
 
 -- the audio handed out is that of the answer
@@ -28,11 +27,11 @@ module _ (b : Bench) (n timestamp : ℕ) (sound buffer : List ℕ) where
   abbrev bytes : List ℕ
   bytes = reportBytes b n timestamp sound
 
-  told-in-front : mapped (λ long. written (take long (reportBuffer b n timestamp sound buffer))) (reportSaid b n timestamp sound (length buffer))
+  told-in-front : mapped (inFront (reportBuffer b n timestamp sound buffer)) (reportSaid b n timestamp sound (length buffer))
       ≡ mapped (λ long. written bytes) (reportSaid b n timestamp sound (length buffer))
   unfolding reportSaid reportBuffer
   told-in-front =
-      judged-one (λ a. mapped (λ long. written (take long (filled a bytes buffer))) a ≡ mapped (λ long. written bytes) a)
+      judged-one (λ a. mapped (inFront (filled a bytes buffer)) a ≡ mapped (λ long. written bytes) a)
       (reportRefusals b n timestamp sound (length buffer)) (length bytes) (λ number cause. refl)
       (λ none. ap (λ (front : List ℕ). accepted (written front)) (take-at bytes (drop (length bytes) buffer) (length bytes) refl))
 
@@ -41,14 +40,14 @@ unfolding step
 step-of-code = record {
   starts = λ k a r e p. p;
   opens = λ k a r e p. ap₂ did (ap (mapped own) (p .0)) (p .1);
-  closes = λ k a r e p. ap₂ did (ap (mapped (λ u. done)) (p .0)) (p .1);
+  closes = λ k a r e p. ap₂ did (ap (mapped wasDone) (p .0)) (p .1);
   hears = λ k a r e p j b sound f q same whole.
       ap₂ did (with-audio _ _ _ _ (ap packetAnswer same ∙ p .0) (q .0 ∙ ap (audioIn (packetAnswer (b .0))) whole)) (p .1);
   ticks = λ k a r e p.
-      ap₂ did (ap₂ (λ (sets : SeatSets) answer. mapped (λ u. ticked (sets .closed) (sets .due)) answer) (p .1 .0) (p .0)) (p .1 .1);
+      ap₂ did (ap₂ (λ sets answer. mapped (tickedSets sets) answer) (p .1 .0) (p .0)) (p .1 .1);
   reports = λ k a r e p.
-      ap₂ did (ap₂ (λ (left : List ℕ) answer. mapped (λ long. written (take long left)) answer) (p .1 .0) (p .0) ∙ told-in-front (a .0) (a .1 .0) (a .1 .1 .0) _ (now (a .1 .1 .1 .1 .0))) (p .1 .1);
+      ap₂ did (ap₂ (λ left answer. mapped (inFront left) answer) (p .1 .0) (p .0) ∙ told-in-front (a .0) (a .1 .0) (a .1 .1 .0) _ (now (a .1 .1 .1 .1 .0))) (p .1 .1);
   receives = λ k a r e p. ap (did (accepted done)) p;
   transmits = λ k a r e p. ap (did (accepted done)) p;
-  sides = λ k a r e p. ap₂ did (ap (mapped (λ u. done)) (p .0)) (p .1);
+  sides = λ k a r e p. ap₂ did (ap (mapped wasDone) (p .0)) (p .1);
 }

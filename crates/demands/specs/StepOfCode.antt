@@ -12,6 +12,7 @@ use Rattle.seats.specs.Answers.{openAnswer, doneAnswer}
 use Rattle.bench.specs.Answers.{packetAnswer}
 use Rattle.bench.specs.Step.{opening, closing, packet, tick, report, received, transmitter, side, Said, done, own, heard, ticked, written, Outcome, step}
 use Rattle.seats.specs.declared.record.Bench.{Bench}
+use Rattle.seats.specs.declared.ticking.SeatSets.{SeatSets}
 use Rattle.bench.specs.declared.hearing.Hearing.{Hearing}
 use Rattle.seats.proofs as seats
 use Rattle.bench.proofs as bench
@@ -24,26 +25,37 @@ Gives {K} {A} {R} {E} promise claim = (k : K) (a : A k) (r : R k) (e : E k) → 
 abbrev pub did : Answer Said → Bench → Outcome
 did answer bench = record { answer = answer; bench = bench }
 
+-- what it told, where it was not refused
+abbrev pub wasDone : Unit {0} → Said
+wasDone u = done
+
+abbrev pub tickedSets : SeatSets → Unit {0} → Said
+tickedSets sets u = ticked (sets .closed) (sets .due)
+
 abbrev pub heardWith : (sound : List ℕ) → Hearing → Said
 heardWith sound h = heard (h .missing) (h .reply) (h .standby) sound
+
+-- a report is the front of the buffer that was lent, as long as the answer says
+abbrev pub inFront : (left : List ℕ) → (long : ℕ) → Said
+inFront left long = written (take long left)
 
 pub record StepOfCode : Type 1 where
   pub starts : Gives seats.record.Bench.fresh.Reads.Learnt (λ k (setup, end) r e. r ≡ freshBench setup)
   pub opens : Gives seats.«open».Reads.Learnt
       (λ k (b, (n, (request, end))) r e. did (mapped own (openAnswer (r .answer))) (r .bench) ≡ step b (opening n request))
   pub closes : Gives seats.close.Reads.Learnt
-      (λ k (b, (n, end)) r e. did (mapped (λ u. done) (doneAnswer (r .answer))) (r .bench) ≡ step b (closing n))
-  -- the audio is what the function `audio` hands out of the packet, for the answer
-  pub hears : Gives bench.packet.Reads.Learnt
-      (λ k (b, (n, (p, end))) r e. Gives bench.audio.Reads.Learnt (λ j (answer, (whole, end)) sound f. answer ≡ r .answer → now whole ≡ now p
+      (λ k (b, (n, end)) r e. did (mapped wasDone (doneAnswer (r .answer))) (r .bench) ≡ step b (closing n))
+  -- with what `audio` hands out of the packet for the answer
+  pub hears : Gives bench.packet.Reads.Learnt (λ k (b, (n, (p, end))) r e.
+      Gives bench.audio.Reads.Learnt (λ j (answer, (whole, end)) sound f. answer ≡ r .answer → now whole ≡ now p
       → did (mapped (heardWith (now sound)) (packetAnswer answer)) (r .bench) ≡ step b (packet n (now p))))
   pub ticks : Gives seats.tick.Reads.Learnt
-      (λ k (b, (ms, end)) r e. did (mapped (λ u. ticked (r .seats .closed) (r .seats .due)) (doneAnswer (r .answer))) (r .bench) ≡ step b (tick ms))
-  -- the report is the front of the lent buffer, as long as the answer says
-  pub reports : Gives bench.report.Reads.Learnt
-      (λ k (b, (n, (timestamp, (audio, (out, end))))) r e. did (mapped (λ long. written (take long (now (e .1 .1 .1 .1 .0)))) (writtenAnswer (r .answer))) (r .bench)
+      (λ k (b, (ms, end)) r e. did (mapped (tickedSets (r .seats)) (doneAnswer (r .answer))) (r .bench) ≡ step b (tick ms))
+  pub reports : Gives bench.report.Reads.Learnt (λ k (b, (n, (timestamp, (audio, (out, end))))) r e.
+      did (mapped (inFront (now (e .1 .1 .1 .1 .0))) (writtenAnswer (r .answer))) (r .bench)
       ≡ step b (report n timestamp (now audio) (length (now out))))
-  pub receives : Gives seats.received.Reads.Learnt (λ k (b, (signals, (level, end))) r e. did (accepted done) r ≡ step b (received signals level))
+  pub receives : Gives seats.received.Reads.Learnt
+      (λ k (b, (signals, (level, end))) r e. did (accepted done) r ≡ step b (received signals level))
   pub transmits : Gives seats.transmitter.Reads.Learnt (λ k (b, (healthy, end)) r e. did (accepted done) r ≡ step b (transmitter healthy))
   pub sides : Gives seats.side.Reads.Learnt
-      (λ k (b, (standby, end)) r e. did (mapped (λ u. done) (doneAnswer (r .answer))) (r .bench) ≡ step b (side standby))
+      (λ k (b, (standby, end)) r e. did (mapped wasDone (doneAnswer (r .answer))) (r .bench) ≡ step b (side standby))
