@@ -125,30 +125,40 @@ class Random:
             return f"write tx {head} {key} {pick(r, '-', '0', '127', '128', '256')} {mss} {end}"
         return f"write rx {head} {r.randrange(2)} {key} {r.randrange(2)} {pick(r, '-', '15/0', '16/0', '31/3', '0/4', '7')} {mss} {end}"
 
-    def line(self):
-        r = self.r
-        kind = r.choices(
-            ["packet", "report", "tick", "open", "close", "received", "transmitter", "side", "read", "write", "setup", "junk"],
-            [30, 20, 10, 20, 1, 4, 3, 3, 4, 4, 0.2, 2])[0]
-        if kind in ("open", "packet", "write", "setup"):
-            return getattr(self, kind)()
-        if kind == "report":
-            return f"report {self.seat()} {r.randrange(2**32)} {self.audio()} {r.choice([20, 24, 264, 512, 0])}"
-        if kind == "tick":
-            return f"tick {r.choice([0, 1, 10, 10, 20, 20, 20, 100, 500, 1000, 1001, 65536])}"
-        if kind == "close":
-            return f"close {self.seat()}"
-        if kind == "received":
-            return f"received {some_number(r, 255)} {r.choice([0, -85, -100, -70, -101, 32767, -32768, -32769, r.randrange(-120, -60)])}"
-        if kind == "transmitter":
-            return f"transmitter {pick(r, 'healthy', 'healthy', 'unhealthy')}"
-        if kind == "side":
-            return f"side {pick(r, 'main', 'standby')}"
-        if kind == "read":
-            return f"read {pick(r, 'tx', 'rx')}{self.packet()[8:]}"
+    def report(self):
+        return f"report {self.seat()} {self.r.randrange(2**32)} {self.audio()} {self.r.choice([20, 24, 264, 512, 0])}"
+
+    def tick(self):
+        return f"tick {self.r.choice([0, 1, 10, 10, 20, 20, 20, 100, 500, 1000, 1001, 65536])}"
+
+    def close(self):
+        return f"close {self.seat()}"
+
+    def received(self):
+        level = self.r.choice([0, -85, -100, -70, -101, 32767, -32768, -32769, self.r.randrange(-120, -60)])
+        return f"received {some_number(self.r, 255)} {level}"
+
+    def transmitter(self):
+        return f"transmitter {pick(self.r, 'healthy', 'healthy', 'unhealthy')}"
+
+    def side(self):
+        return f"side {pick(self.r, 'main', 'standby')}"
+
+    def read(self):
+        return f"read {pick(self.r, 'tx', 'rx')}{self.packet()[8:]}"
+
+    def junk(self):
         words = self.line().split(" ")
-        words[r.randrange(len(words))] = r.choice(["", "-", "#", "0", "x", "99999999999", words[0]])
-        return r.choice([" ", "\t", "  "]).join(words)
+        words[self.r.randrange(len(words))] = self.r.choice(["", "-", "#", "0", "x", "99999999999", words[0]])
+        return self.r.choice([" ", "\t", "  "]).join(words)
+
+    # how often each comes
+    KINDS = {"packet": 30, "report": 20, "tick": 10, "open": 20, "close": 1, "received": 4, "transmitter": 3, "side": 3,
+             "read": 4, "write": 4, "setup": 0.2, "junk": 2}
+
+    def line(self):
+        kind = self.r.choices(list(self.KINDS), list(self.KINDS.values()))[0]
+        return getattr(self, kind)()
 
 
 def random_session(lines, seed):
