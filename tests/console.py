@@ -11,6 +11,7 @@ import re
 import sys
 
 import model
+import usage
 
 USAGE = {
     "setup": "setup SEATS EXT single|pair lockout|summation interruption|summation",
@@ -249,4 +250,5 @@ def answered(some):
 
 
 if __name__ == "__main__":
+    usage.arguments(__doc__)
     sys.stdout.buffer.write(answered(sys.stdin.buffer.read()))

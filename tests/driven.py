@@ -15,6 +15,7 @@ import time
 
 import console
 import model
+import usage
 from model import NORMAL, TEST
 from sessions import writers
 from sessions_lines import wrong_words
@@ -187,14 +188,15 @@ def in_pieces(given):
 
 
 def main():
-    if sys.argv[1:2] == ["--save"]:
-        folder = pathlib.Path(sys.argv[2])
+    asked = usage.arguments(__doc__, "--save")
+    if asked[:1] == ["--save"]:
+        folder = pathlib.Path(asked[1])
         folder.mkdir(parents=True, exist_ok=True)
         for number, (name, given) in enumerate([*edges(), ("a random session", random_session(20_000, 1))]):
             (folder / f"{number:02}.stdin").write_bytes(given)
             (folder / f"{number:02}.stdout").write_bytes(console.answered(given))
         return 0
-    lines = int(sys.argv[1]) if len(sys.argv) > 1 else 20_000
+    lines = int(asked[0]) if asked else 20_000
     cases = [*edges(), ("a random session", random_session(lines, 1))]
     fine = [held(name, given, subprocess.run(CONSOLE, input=given, stdout=subprocess.PIPE).stdout) for name, given in cases]
     given = random_session(100, 2)

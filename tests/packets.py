@@ -12,13 +12,12 @@ break known cases, the number that 01's order gives is asserted here as well.
 
 import itertools
 import pathlib
-import sys
 
 import model
+import usage
 
 ROOT = pathlib.Path(__file__).resolve().parent.parent
 CRATE = ROOT / "crates" / "decode_each"
-ELSEWHERE = ROOT / "tests" / "out" / "decode_each"
 INPUT, EXPECTED = "stdin", "stdout"
 EXT = 0x0167
 
@@ -282,12 +281,6 @@ add("5000 zero bytes", bytes(5000), 2)
 good("a short packet behind a long one", built())
 
 
-def where(arguments):
-    if arguments:
-        return pathlib.Path(arguments[0])
-    return CRATE if CRATE.is_dir() else ELSEWHERE
-
-
 def listed(lines):
     for number, ((group, packet), line) in enumerate(zip(vectors, lines), 1):
         print(f"{number} | {group} | {packet[:40].hex()}{'..' if len(packet) > 40 else ''} | {line}")
@@ -295,9 +288,10 @@ def listed(lines):
 
 def main():
     lines = [model.line(model.read(model.TX, EXT, packet)) for _, packet in vectors]
-    if sys.argv[1:] == ["--list"]:
+    given = usage.arguments(__doc__, "--list")
+    if given == ["--list"]:
         return listed(lines)
-    folder = where(sys.argv[1:])
+    folder = pathlib.Path(given[0]) if given else CRATE
     folder.mkdir(parents=True, exist_ok=True)
     records = b"".join(len(packet).to_bytes(2, "big") + packet for _, packet in vectors)
     (folder / INPUT).write_bytes(records)

@@ -9,10 +9,10 @@ and asserted: a slip in the model shows when the sessions are made. tests/driven
 """
 
 import pathlib
-import sys
 
 import console
 import model
+import usage
 import written
 from sessions_air import air, time
 from sessions_lines import lines
@@ -47,7 +47,8 @@ def as_line(write):
 
 
 def main():
-    folder = pathlib.Path(sys.argv[1]) if len(sys.argv) > 1 else CRATE
+    given = usage.arguments(__doc__)
+    folder = pathlib.Path(given[0]) if given else CRATE
     folder.mkdir(parents=True, exist_ok=True)
     s = Sessions()
     for part in (printed_examples, traps, refusals, time, air, packets, lines):

@@ -14,6 +14,8 @@ import random
 import subprocess
 import sys
 
+import usage
+
 ROOT = pathlib.Path(__file__).resolve().parent.parent
 LESSONS = "78"
 NAMES_A_SEAT = ("open", "close", "packet", "report")
@@ -137,8 +139,9 @@ def soak(count, seed):
 
 
 def main():
-    count = int(sys.argv[1]) if len(sys.argv) > 1 else 20_000
-    seeds = [int(sys.argv[2])] if len(sys.argv) > 2 else range(1, 5)
+    given = usage.arguments(__doc__)
+    count = int(given[0]) if given else 20_000
+    seeds = [int(given[1])] if len(given) > 1 else range(1, 5)
     for seed in seeds:
         soak(count, seed)
 

@@ -16,6 +16,7 @@ import tempfile
 from dataclasses import replace
 
 import model
+import usage
 import written
 from model import COUPLING, EMERGENCY, NORMAL, OFF, PRIORITY, TEST, Field
 
@@ -167,7 +168,8 @@ def same(name, ours, theirs):
 
 
 def main():
-    cases = list(made_by_our_writer() if sys.argv[1:] == ["--written"] else made_by_the_model())
+    written = usage.arguments(__doc__, "--written") == ["--written"]
+    cases = list(made_by_our_writer() if written else made_by_the_model())
     rows = seen_by_tshark([packet for _, packet, _ in cases])
     assert len(rows) == len(cases), "tshark left a packet out"
     differences = 0

@@ -12,10 +12,10 @@ length, or refused with 26 or 27, is asserted here as well.
 
 import itertools
 import pathlib
-import sys
 from dataclasses import dataclass
 
 import model
+import usage
 
 ROOT = pathlib.Path(__file__).resolve().parent.parent
 CRATE = ROOT / "crates" / "write_each"
@@ -274,9 +274,10 @@ def listed():
 
 
 def main():
-    if sys.argv[1:] == ["--list"]:
+    given = usage.arguments(__doc__, "--list")
+    if given == ["--list"]:
         return listed()
-    folder = pathlib.Path(sys.argv[1]) if len(sys.argv) > 1 else CRATE
+    folder = pathlib.Path(given[0]) if given else CRATE
     folder.mkdir(parents=True, exist_ok=True)
     (folder / INPUT).write_bytes(b"".join(write.record() for write in writes))
     (folder / EXPECTED).write_text("".join(write.line() + "\n" for write in writes))
