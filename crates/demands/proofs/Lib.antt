@@ -40,3 +40,4 @@ pub mod Nodding
 pub mod WrongBenches
 pub mod Tight
 pub mod StepOfCode
+pub mod BothWays

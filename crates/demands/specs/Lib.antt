@@ -15,3 +15,4 @@ pub mod Undisturbed
 pub mod WrongBenches
 pub mod Tight
 pub mod StepOfCode
+pub mod BothWays

@@ -2,4 +2,4 @@
 // Demand 1: ExactAll, over Exact and ExactCalls. Demand 2: Inversion, Plain, RoundTrip, Rewrite, Examples, WrongBenches.
 // Demand 3: Apart, where to start; LessonsSeen, its exceptions; Undisturbed, what a teacher can quote of it.
 // The bench: Kept, what it keeps through every call; SeatAfter, what one call does to one seat.
-// The code: StepOfCode, each call does what step says; Tight, what each public function promises leaves one answer.
+// The code: StepOfCode and BothWays, its calls, readers and writers do as said; Tight, its promises leave one answer.
