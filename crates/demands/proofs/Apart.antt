@@ -84,7 +84,7 @@ module _ (setup : Setup) where
   unfolding freshBench
   fresh-setup = refl
 
-  held : (run : List Call) → Held (ran setup run)
+  pub held : (run : List Call) → Held (ran setup run)
   held run = after-run Held held-step (freshBench setup) run (held-fresh setup)
 
   its-setup : (run : List Call) → ran setup run .setup ≡ setup

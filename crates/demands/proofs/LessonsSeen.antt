@@ -24,6 +24,7 @@ lessons-seen =
       alike = refl;
       seen = refl;
       unseen = refl;
+      seen-ptts = refl;
       locked-out = refl;
       let-through = refl;
       wins = refl;

@@ -39,7 +39,7 @@ module _ (d : Direction) (ext : ℕ) (p : List ℕ) (small : Bytes p) (h : Passe
 
   no-csrc : Plain p → csrcWords p ≡ []
   unfolding csrcWords
-  no-csrc plain = simp (plain .noCsrc)
+  no-csrc plain = simp (plain .no-csrc)
 
   same-bytes : Plain p → encode ext m (payload p) ≡ p
   same-bytes plain =

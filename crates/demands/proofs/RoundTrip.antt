@@ -15,10 +15,13 @@ use Rattle.packet.specs.declared.message.SqiItem.the-variants as sqi
 use Rattle.packet.specs.declared.message.ClimaxItem.the-variants as climax
 use Rattle.packet.specs.declared.message.Message.{Message}
 use Rattle.demands.specs.Plain.{itemsHere}
-use Rattle.demands.specs.RoundTrip.{Narrow, RoundTripTx, RoundTripRx, PlainWritten}
+use Rattle.demands.specs.RoundTrip.{Narrow, RoundTripTx, RoundTripRx, PlainWritten, ReportsReadBack}
 use Rattle.demands.proofs.ItemsBack.{AllWrite, list-back, allowed-back}
 use Rattle.demands.proofs.RisingItems.{rising-writes, rising-kept, rising-once, rising-rises, rising-in-tx, rising-in-rx}
-use Rattle.packet.proofs.Judged.{accepts}
+use Rattle.packet.proofs.Judged.{accepts, meets-none}
+use Rattle.bench.specs.Reporting.{reportOf, reportRefusals, reportSaid, reportBytes}
+use Rattle.bench.proofs.Accepted.{report-accepted}
+use Rattle.bench.proofs.ReportLaws.{report-writable}
 use Rattle.packet.proofs.Words.{at-most-three}
 use Rattle.demands.proofs.ReadBack.{no-case, message-made}
 use Rattle.demands.proofs.Written.{Writable, writable-is, bit-set, SaysOf, field-written, allowed-in-tx, allowed-in-rx, kind-allowed, sound-allowed, zerosFor, afterFieldOf, few-words, itemsFor, fieldFor, Written, written}
@@ -90,4 +93,11 @@ pub plain-written : PlainWritten
 plain-written ext m sound narrow fine =
     let held = items-here ext m sound narrow fine in
     let parts = parts ext m sound narrow fine in
-    record { noCsrc = parts .csrc-is; rising = simp held (rising-rises (m .items)); fewest = parts .words-is ∙ simp held }
+    record { no-csrc = parts .csrc-is; rising = simp held (rising-rises (m .items)); fewest = parts .words-is ∙ simp held }
+
+pub reports-read-back : ReportsReadBack
+unfolding reportBytes reportSaid
+reports-read-back b n timestamp sound room long narrow e =
+    let met = report-accepted b n timestamp sound room (meets-none (reportRefusals b n timestamp sound room) _ long e .0) in
+    round-trip-rx (b .setup .ext) (reportOf b n timestamp) sound narrow
+    (report-writable b n timestamp (length sound) (met .is-seat) (met .audio-allowed)) .0

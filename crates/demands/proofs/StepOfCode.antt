@@ -7,7 +7,6 @@ use lib.ListN.{length, drop}
 use lib.Seq.{take-at}
 use Rattle.packet.specs.Refusals.{Answer, accepted, mapped}
 use Rattle.packet.specs.Writing.{filled}
-use Rattle.bench.specs.Answers.{packetAnswer}
 use Rattle.bench.specs.Hearing.{audioIn}
 use Rattle.bench.specs.Reporting.{reportRefusals, reportSaid, reportBytes, reportBuffer}
 use Rattle.bench.specs.Step.{own, done, told, written, step}
@@ -16,11 +15,9 @@ use Rattle.seats.specs.declared.record.Bench.{Bench}
 use Rattle.demands.specs.StepOfCode.{did, wasDone, tickedSets, heardWith, inFront, StepOfCode}
 use Rattle.packet.proofs.Judged.{judged-one}
 
--- the audio handed out is that of the answer
-with-audio : (p sound : List ℕ) (answer said : Answer Hearing) → answer ≡ said → sound ≡ audioIn answer p
-    → mapped (heardWith sound) answer ≡ mapped (told said p) said
-with-audio p sound answer said e h =
-    ap (λ (s : List ℕ). mapped (heardWith s) answer) h ∙ ap (λ (a : Answer Hearing). mapped (heardWith (audioIn a p)) a) e
+-- the audio of the answer
+with-audio : (p : List ℕ) (answer said : Answer Hearing) → answer ≡ said → mapped (heardWith (audioIn answer p)) answer ≡ mapped (told said p) said
+with-audio p answer said e = ap (λ (a : Answer Hearing). mapped (heardWith (audioIn a p)) a) e
 
 -- the report is the front of its buffer
 module _ (b : Bench) (n timestamp : ℕ) (sound buffer : List ℕ) where
@@ -38,15 +35,21 @@ module _ (b : Bench) (n timestamp : ℕ) (sound buffer : List ℕ) where
 pub step-of-code : StepOfCode
 unfolding step
 step-of-code = record {
+  reads-tx = λ k a r e p. p;
+  reads-rx = λ k a r e p. p;
+  pays-out = λ k a r e p. p .0;
+  writes-tx = λ k a r e p. p;
+  writes-rx = λ k a r e p. p;
   starts = λ k a r e p. p;
   opens = λ k a r e p. ap₂ did (ap (mapped own) (p .0)) (p .1);
   closes = λ k a r e p. ap₂ did (ap (mapped wasDone) (p .0)) (p .1);
-  hears = λ k a r e p j b sound f q same whole.
-      ap₂ did (with-audio _ _ _ _ (ap packetAnswer same ∙ p .0) (q .0 ∙ ap (audioIn (packetAnswer (b .0))) whole)) (p .1);
+  hears = λ k a r e p. ap₂ did (with-audio _ _ _ (p .0)) (p .1);
+  hands-out = λ k a r e p. p .0;
   ticks = λ k a r e p.
       ap₂ did (ap₂ (λ sets answer. mapped (tickedSets sets) answer) (p .1 .0) (p .0)) (p .1 .1);
   reports = λ k a r e p.
       ap₂ did (ap₂ (λ left answer. mapped (inFront left) answer) (p .1 .0) (p .0) ∙ told-in-front (a .0) (a .1 .0) (a .1 .1 .0) _ (now (a .1 .1 .1 .1 .0))) (p .1 .1);
+  leaves = λ k a r e p. p .1 .0;
   receives = λ k a r e p. ap (did (accepted done)) p;
   transmits = λ k a r e p. ap (did (accepted done)) p;
   sides = λ k a r e p. ap₂ did (ap (mapped wasDone) (p .0)) (p .1);

@@ -6,6 +6,7 @@ use mathlib.Core.List.{List, [], _∷_, _++_}
 use lib.Dec.{eqb}
 use Rattle.packet.specs.Packet.{test}
 use Rattle.packet.specs.Refusals.{Answer, accepted, refused, mapped}
+use Rattle.air.specs.Air.{benchAir}
 use Rattle.seats.specs.Record.{seatNumbers, lesson, freshBench, settled}
 use Rattle.bench.specs.Hearing.{packetSaid}
 use Rattle.bench.specs.Reporting.{reportBytes, reportRefusals, reportSaid, reportedBench}
@@ -15,7 +16,9 @@ use Rattle.seats.specs.declared.record.Bench.{Bench}
 use Rattle.demands.specs.Apart.{named, withoutLessons, pttOf, liveAboveTest, fixed, compared, Apart}
 use Rattle.demands.specs.Undisturbed.{audioSent, Undisturbed}
 use Rattle.packet.proofs.Judged.{judged-one}
-use Rattle.demands.proofs.Apart.{ran, lessons-apart}
+use Rattle.demands.proofs.WithoutLessons.{low}
+use Rattle.demands.proofs.BenchAir.{up-is, air-low}
+use Rattle.demands.proofs.Apart.{ran, held, low-alike, lessons-apart}
 use Rattle.demands.proofs.LiveReports.{above-reported}
 
 -- ---- runs
@@ -112,6 +115,7 @@ module _ (setup : Setup) (run : List Call) where
 pub undisturbed : Undisturbed
 undisturbed setup run =
     record {
+      air = λ up. sym (air-alone run up) ∙ ap benchAir (low-alike setup run alone (sym (out-twice setup run))) ∙ air-alone alone (sym (apart setup run .together) ∙ up);
       audio = λ n p up. by-seat n p up (lesson setup n) refl;
       reports = λ n timestamp sound room live up.
           sym (report-whole setup (ran setup run) n timestamp sound room up)
@@ -119,6 +123,12 @@ undisturbed setup run =
           ∙ report-whole setup (ran setup (withoutLessons setup run)) n timestamp sound room (sym (apart setup run .together) ∙ up);
     }
   where
+    alone : List Call
+    alone = withoutLessons setup run
+
+    air-alone : (cs : List Call) → liveAboveTest (ran setup cs) seatNumbers ≡ true → benchAir (low (ran setup cs)) ≡ benchAir (ran setup cs)
+    air-alone cs up = air-low (ran setup cs) (held setup cs) (up-is (ran setup cs) (held setup cs) up)
+
     up-alone : (n : ℕ) (p : List ℕ) → liveAboveTest (step (ran setup run) (packet n p) .bench) seatNumbers ≡ true
         → liveAboveTest (step (ran setup (withoutLessons setup run)) (packet n p) .bench) seatNumbers ≡ true
     up-alone n p up = sym (together-then setup run (packet n p)) ∙ up

@@ -50,8 +50,8 @@ tried =
 
 -- ---- each breaks
 
-not-refusing : (number cause : ℕ) → Answers (wrong (refusing number cause)) [] (enters 1) → ⊥
-not-refusing number cause h = never (own 1) number cause (sym (h ∙ tried .opens))
+not-refusing : (number cause : Bench → Call → ℕ) → Answers (wrong (refusing number cause)) [] (enters 1) → ⊥
+not-refusing number cause h = never (own 1) _ _ (sym (h ∙ tried .opens))
 
 not-repeating : (bytes : List ℕ) → Answers (wrong (repeating bytes)) entered (asked 1) → Answers (wrong (repeating bytes)) reported (asked 1) → ⊥
 not-repeating bytes first second =

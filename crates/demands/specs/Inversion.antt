@@ -1,5 +1,5 @@
--- What an accepted packet's bytes are: the message, the CSRC words, the order of the items, the zeros behind them and
--- the payload say every byte of it.
+-- What an accepted packet's bytes are: the message, the CSRC words, the payload type, the number of words, the items in their
+-- order with their values, and the payload say every byte of it.
 use Prim.Native.Nat.{ℕ, _+_, _*_, _-_, _/_}
 use mathlib.Core.Path.{_≡_}
 use mathlib.Core.List.{List, _++_}

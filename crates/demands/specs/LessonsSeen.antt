@@ -2,7 +2,7 @@
 -- a live keying above Test wins over a lesson keying that began first.
 use Prim.Native.Nat.{ℕ}
 use mathlib.Core.Path.{_≡_}
-use mathlib.Core.Bool.{true, false}
+use mathlib.Core.Bool.{Bool, true, false}
 use mathlib.Core.List.{List, [], _∷_}
 use lib.ListN.{replicate}
 use Rattle.packet.specs.Packet.{normal, test}
@@ -36,8 +36,8 @@ abbrev pub voice : List ℕ
 voice = replicate 80 0xD5
 
 -- a packet with audio
-abbrev pub keying : (n ptt sequence : ℕ) → Tx
-keying n ptt sequence =
+abbrev pub keying : (n ptt sequence : ℕ) (ptts : Bool) → Tx
+keying n ptt sequence ptts =
     record {
       sequence = sequence;
       timestamp = 0;
@@ -45,13 +45,16 @@ keying n ptt sequence =
       ptt = ptt;
       id = n;
       pm = false;
-      ptts = false;
+      ptts = ptts;
       climax = climax.Absent;
       side = side.Absent;
     }
 
 abbrev pub keys : (n ptt sequence : ℕ) → Call
-keys n ptt sequence = packet n (encode 0x0167 (fromTx (keying n ptt sequence)) voice)
+keys n ptt sequence = packet n (encode 0x0167 (fromTx (keying n ptt sequence false)) voice)
+
+abbrev pub keysPtts : (n ptt sequence : ℕ) → Call
+keysPtts n ptt sequence = packet n (encode 0x0167 (fromTx (keying n ptt sequence true)) voice)
 
 abbrev pub asked : (n : ℕ) → Call
 asked n = report n 0 [] 20
@@ -75,6 +78,7 @@ pub record LessonsSeen : Type 0 where
   -- "whether a Test keying is on the air": live seat 1 is told Test, id 8, or off
   pub seen : answer withLesson (asked 1) ≡ accepted (written (around (0xA2 ∷ 0x00 ∷ 0x00 ∷ 0x00 ∷ [])))
   pub unseen : answer withoutLesson (asked 1) ≡ accepted (written (around (0x00 ∷ 0x00 ∷ 0x00 ∷ 0x00 ∷ [])))
+  pub seen-ptts : answer (enters 1 ∷ enters 8 ∷ keysPtts 8 test 1 ∷ []) (asked 1) ≡ accepted (written (around (0xA2 ∷ 0x10 ∷ 0x00 ∷ 0x00 ∷ [])))
   -- ".. and its audio sent": live seat 1 keys Test and is locked out, or sent
   pub locked-out : answer withLesson (keys 1 test 1) ≡ accepted (heard 0 true false [])
   pub let-through : answer withoutLesson (keys 1 test 1) ≡ accepted (heard 0 true false voice)

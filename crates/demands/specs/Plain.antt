@@ -15,6 +15,6 @@ Rising (i ∷ []) = Unit {0}
 Rising (i ∷ j ∷ is) = (i .type < j .type) × Rising (j ∷ is)
 
 pub record Plain (p : List ℕ) : Type 0 where
-  pub noCsrc : csrcCount p ≡ 0
+  pub no-csrc : csrcCount p ≡ 0
   pub rising : Rising (itemsHere p)
   pub fewest : wordCount p ≡ fewestWords (itemsHere p)

@@ -11,6 +11,8 @@ use Rattle.packet.specs.Writing.{fromTx, fromRx, encode, writable, write, buffe
 use Rattle.packet.specs.declared.message.Message.{Message}
 use Rattle.packet.specs.declared.message.Tx.{Tx}
 use Rattle.packet.specs.declared.message.Rx.{Rx}
+use Rattle.seats.specs.declared.record.Bench.{Bench}
+use Rattle.bench.specs.Reporting.{reportOf, reportSaid, reportBytes}
 use Rattle.demands.specs.Plain.{Plain}
 
 -- Numbers that fit their bytes: the code's types see to it.
@@ -36,6 +38,12 @@ WrittenAtFront =
     (ext : ℕ) (m : Message) (sound buffer : List ℕ) (n : ℕ) → write ext m sound (length buffer) ≡ accepted n
     → (writable m (length sound) ≡ true) × (take n (buffered ext m sound buffer) ≡ encode ext m sound)
 
--- and 01: "Writers write only this", plain form.
+-- and a report that was written tells what it was made of.
+abbrev pub ReportsReadBack : Type 0
+ReportsReadBack =
+    (b : Bench) (n timestamp : ℕ) (sound : List ℕ) (room long : ℕ) → Narrow (b .setup .ext) (fromRx (reportOf b n timestamp))
+    → reportSaid b n timestamp sound room ≡ accepted long → readRx (b .setup .ext) (reportBytes b n timestamp sound) ≡ accepted (reportOf b n timestamp)
+
+-- 01: "Writers write only this", plain form.
 abbrev pub PlainWritten : Type 0
 PlainWritten = (ext : ℕ) (m : Message) (sound : List ℕ) → Narrow ext m → writable m (length sound) ≡ true → Plain (encode ext m sound)

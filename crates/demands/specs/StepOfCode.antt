@@ -1,19 +1,24 @@
--- Demands 1 and 3 speak of runs of calls and are stated over `step`. Here: what each call of the code answers and leaves is
--- what `step` says, so that they are theorems on the code. Its promise is the `ensures` in the code, as in Tight.
+-- The demands are stated over definitions: `readTx`, `write` and the like for packets, `step` for runs of calls. Here: the
+-- code does what these say, so that they are theorems on the code. A promise is the `ensures` in the code, as in Tight.
 use Prim.Native.Nat.{ℕ}
 use mathlib.Core.Path.{_≡_}
 use mathlib.Core.List.{List}
 use denote.Ref.{now}
 use lib.ListN.{length, take}
 use Rattle.packet.specs.Refusals.{Answer, accepted, mapped}
-use Rattle.packet.specs.Writing.{writtenAnswer}
+use Rattle.packet.specs.Packet.{payload}
+use Rattle.packet.specs.Reading.{readTx, readRx, txAnswer, rxAnswer}
+use Rattle.packet.specs.Writing.{fromTx, fromRx, write, buffered, writtenAnswer}
 use Rattle.seats.specs.Record.{freshBench}
 use Rattle.seats.specs.Answers.{openAnswer, doneAnswer}
+use Rattle.bench.specs.Hearing.{audioIn}
+use Rattle.bench.specs.Reporting.{reportBuffer}
 use Rattle.bench.specs.Answers.{packetAnswer}
 use Rattle.bench.specs.Step.{opening, closing, packet, tick, report, received, transmitter, side, Said, done, own, heard, ticked, written, Outcome, step}
 use Rattle.seats.specs.declared.record.Bench.{Bench}
 use Rattle.seats.specs.declared.ticking.SeatSets.{SeatSets}
 use Rattle.bench.specs.declared.hearing.Hearing.{Hearing}
+use Rattle.packet.proofs as packets
 use Rattle.seats.proofs as seats
 use Rattle.bench.proofs as bench
 
@@ -40,20 +45,32 @@ abbrev pub inFront : (left : List ℕ) → (long : ℕ) → Said
 inFront left long = written (take long left)
 
 pub record StepOfCode : Type 1 where
+  -- the readers and the writers
+  pub reads-tx : Gives packets.read_tx.Reads.Learnt (λ k (ext, (p, end)) r e. txAnswer r ≡ readTx ext (now p))
+  pub reads-rx : Gives packets.read_rx.Reads.Learnt (λ k (ext, (p, end)) r e. rxAnswer r ≡ readRx ext (now p))
+  pub pays-out : Gives packets.payload.Reads.Learnt (λ k (p, end) r e. now r ≡ payload (now p))
+  pub writes-tx : Gives packets.write_tx.Reads.Learnt (λ k (ext, (m, (sound, (out, end)))) r e.
+      (writtenAnswer r ≡ write ext (fromTx m) (now sound) (length (now out))) × (now (e .1 .1 .1 .0) ≡ buffered ext (fromTx m) (now sound) (now out)))
+  pub writes-rx : Gives packets.write_rx.Reads.Learnt (λ k (ext, (m, (sound, (out, end)))) r e.
+      (writtenAnswer r ≡ write ext (fromRx m) (now sound) (length (now out))) × (now (e .1 .1 .1 .0) ≡ buffered ext (fromRx m) (now sound) (now out)))
+  -- the calls of the bench
   pub starts : Gives seats.record.Bench.fresh.Reads.Learnt (λ k (setup, end) r e. r ≡ freshBench setup)
   pub opens : Gives seats.«open».Reads.Learnt
       (λ k (b, (n, (request, end))) r e. did (mapped own (openAnswer (r .answer))) (r .bench) ≡ step b (opening n request))
   pub closes : Gives seats.close.Reads.Learnt
       (λ k (b, (n, end)) r e. did (mapped wasDone (doneAnswer (r .answer))) (r .bench) ≡ step b (closing n))
-  -- with what `audio` hands out of the packet for the answer
+  -- with the audio that `audio` hands out for its answer
   pub hears : Gives bench.packet.Reads.Learnt (λ k (b, (n, (p, end))) r e.
-      Gives bench.audio.Reads.Learnt (λ j (answer, (whole, end)) sound f. answer ≡ r .answer → now whole ≡ now p
-      → did (mapped (heardWith (now sound)) (packetAnswer answer)) (r .bench) ≡ step b (packet n (now p))))
+      did (mapped (heardWith (audioIn (packetAnswer (r .answer)) (now p))) (packetAnswer (r .answer))) (r .bench) ≡ step b (packet n (now p)))
+  pub hands-out : Gives bench.audio.Reads.Learnt (λ k (answer, (p, end)) sound e. now sound ≡ audioIn (packetAnswer answer) (now p))
   pub ticks : Gives seats.tick.Reads.Learnt
       (λ k (b, (ms, end)) r e. did (mapped (tickedSets (r .seats)) (doneAnswer (r .answer))) (r .bench) ≡ step b (tick ms))
   pub reports : Gives bench.report.Reads.Learnt (λ k (b, (n, (timestamp, (audio, (out, end))))) r e.
       did (mapped (inFront (now (e .1 .1 .1 .1 .0))) (writtenAnswer (r .answer))) (r .bench)
       ≡ step b (report n timestamp (now audio) (length (now out))))
+  -- "Bytes past its length stay", and all of them where it is refused
+  pub leaves : Gives bench.report.Reads.Learnt (λ k (b, (n, (timestamp, (audio, (out, end))))) r e.
+      now (e .1 .1 .1 .1 .0) ≡ reportBuffer b n timestamp (now audio) (now out))
   pub receives : Gives seats.received.Reads.Learnt
       (λ k (b, (signals, (level, end))) r e. did (accepted done) r ≡ step b (received signals level))
   pub transmits : Gives seats.transmitter.Reads.Learnt (λ k (b, (healthy, end)) r e. did (accepted done) r ≡ step b (transmitter healthy))

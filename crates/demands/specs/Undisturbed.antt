@@ -1,11 +1,12 @@
--- For teachers, from demand 3: whatever lesson seats do, while a live keying above Test is up the audio sent and every
--- report to a live seat are those of a bench on which no lesson seat was ever opened.
+-- For teachers, from demand 3: whatever lesson seats do, while a healthy transmitter has an unmuted live keying above Test,
+-- who is on the air, the audio sent and every report to a live seat are those of a bench on which no lesson seat was ever opened.
 use Prim.Native.Nat.{ℕ}
 use mathlib.Core.Path.{_≡_}
 use mathlib.Core.Bool.{true, false}
 use mathlib.Core.List.{List, []}
 use Rattle.packet.specs.Refusals.{Answer, accepted, refused}
 use Rattle.seats.specs.Record.{seatNumbers, lesson, freshBench}
+use Rattle.air.specs.Air.{benchAir}
 use Rattle.bench.specs.Step.{Call, packet, report, Said, done, own, heard, ticked, written, step, after}
 use Rattle.seats.specs.declared.record.Setup.{Setup}
 use Rattle.seats.specs.declared.record.Bench.{Bench}
@@ -21,6 +22,7 @@ audioSent (refused n cause) = []
 
 -- b after the run, e after the same run without its lesson calls
 pub record AsIfAlone (setup : Setup) (b e : Bench) : Type 0 where
+  pub air : liveAboveTest b seatNumbers ≡ true → benchAir b ≡ benchAir e
   pub audio : (n : ℕ) (p : List ℕ) → liveAboveTest (step b (packet n p) .bench) seatNumbers ≡ true
       → audioSent (step b (packet n p) .answer) ≡ audioSent (step e (packet n p) .answer)
   pub reports : (n timestamp : ℕ) (sound : List ℕ) (room : ℕ) → lesson setup n ≡ false → liveAboveTest b seatNumbers ≡ true

@@ -35,9 +35,9 @@ Answers machine run c = machine (labAfter run) c .answer ≡ answer run c
 abbrev pub Leaves : Machine → List Call → Call → Type 0
 Leaves machine run c = machine (labAfter run) c .bench ≡ step (labAfter run) c .bench
 
--- The five, whatever number, bytes, answers or count they take; each else as right as it can be.
+-- The five, whatever numbers, bytes, answers or count they take; each else as right as it can be.
 pub data WrongBench : Type 0 where
-  refusing : (number cause : ℕ) → WrongBench
+  refusing : (number cause : Bench → Call → ℕ) → WrongBench
   repeating : (bytes : List ℕ) → WrongBench
   ignoring : (says : Bench → Call → Answer Said) → WrongBench
   nodding : WrongBench
@@ -77,7 +77,7 @@ abbrev pub nod : Bench → Outcome
 nod b = record { answer = accepted (heard 0 false (b .standby) []); bench = b }
 
 abbrev pub wrong : WrongBench → Machine
-wrong (refusing number cause) b c = record { answer = refused number cause; bench = b }
+wrong (refusing number cause) b c = record { answer = refused (number b c) (cause b c); bench = b }
 wrong (repeating bytes) b c = retold (withBytes bytes) b c
 wrong (ignoring says) b c = record { answer = says b c; bench = b }
 wrong nodding b c = cond (isLater b c) (nod b) (step b c)
@@ -124,7 +124,7 @@ pub record Tried : Type 0 where
 pub record WrongBenches : Type 0 where
   pub tried : Tried
   -- "refusals are exact": at the start seat 1 may be opened
-  pub not-refusing : (number cause : ℕ) → Answers (wrong (refusing number cause)) [] (enters 1) → ⊥
+  pub not-refusing : (number cause : Bench → Call → ℕ) → Answers (wrong (refusing number cause)) [] (enters 1) → ⊥
   -- "reports follow the history": the first report and the second are not the same bytes
   pub not-repeating : (bytes : List ℕ) → Answers (wrong (repeating bytes)) entered (asked 1) → Answers (wrong (repeating bytes)) reported (asked 1) → ⊥
   -- "every call moves the state": a seat opened is open, a keying ended has ended
