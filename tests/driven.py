@@ -78,7 +78,7 @@ def some_number(r, top):
 
 
 class Random:
-    """Lines of which most are calls that are accepted, so that seats are opened, keyed, muted, silent, closed."""
+    """Lines of which a third are accepted, so that seats are opened, keyed, muted, silent, closed; the others are refused or wrong."""
 
     def __init__(self, seed):
         self.r = random.Random(seed)
@@ -190,6 +190,8 @@ def in_pieces(given):
 def main():
     asked = usage.arguments(__doc__, "--save")
     if asked[:1] == ["--save"]:
+        if len(asked) != 2:
+            sys.exit("tests/driven.py: --save wants a DIR")
         folder = pathlib.Path(asked[1])
         folder.mkdir(parents=True, exist_ok=True)
         for number, (name, given) in enumerate([*edges(), ("a random session", random_session(20_000, 1))]):

@@ -4,11 +4,12 @@ no `error:` line; the same session twice gives the same answers; a refused call 
 its refused calls answers the same); and demand 3 (the session without its lesson calls answers live seats the same,
 but for what the demand allows).
 
-  tests/soak.py [LINES] [SEED]     LINES a session, 20,000 if not given
+  tests/soak.py [LINES] [SEED]     LINES a session, 20,000 if not given; without SEED a session for each choice of modes
 
 The console is run by ./ostalenc, which proves and builds it where it is not built yet.
 """
 
+import itertools
 import pathlib
 import random
 import subprocess
@@ -18,6 +19,7 @@ import usage
 
 ROOT = pathlib.Path(__file__).resolve().parent.parent
 LESSONS = "78"
+MODES = list(itertools.product(("single", "pair"), ("lockout", "summation"), ("interruption", "summation")))
 NAMES_A_SEAT = ("open", "close", "packet", "report")
 TEST = 5
 
@@ -47,13 +49,12 @@ def a_packet(r, seat, sequence):
 
 def session(count, seed):
     r = random.Random(seed)
-    modes = f"{r.choice(['single', 'pair', 'pair'])} {r.choice(['lockout', 'summation'])} {r.choice(['interruption', 'summation'])}"
-    lines, sequence = [f"setup {LESSONS} 0167 {modes}"], [0] * 10
+    lines, sequence = [f"setup {LESSONS} 0167 {' '.join(MODES[seed % len(MODES)])}"], [0] * 10
     while len(lines) < count:
-        seat = r.choice([1, 2, 3, 4, 5, 6, 7, 8, 7, 8, 0, 9])
-        kind = r.choices(["packet", "report", "tick", "open", "close", "received", "transmitter", "side"], [40, 26, 5, 20, 1, 4, 2, 2])[0]
+        seat = r.choice([1, 2, 3, 4, 5, 6, 7, 8, 7, 8] * 3 + [0, 9])
+        kind = r.choices(["packet", "report", "tick", "open", "close", "received", "transmitter", "side"], [40, 26, 5, 6, 1, 4, 2, 2])[0]
         if kind == "packet":
-            sequence[seat] = (sequence[seat] + r.choice([1, 1, 1, 1, 1, 1, 2, 9, 0, 32767])) % 65536
+            sequence[seat] = (sequence[seat] + r.choice([1] * 16 + [2, 9, 0, 32767])) % 65536
             lines.append(f"packet {seat} {a_packet(r, seat, sequence[seat])}")
         elif kind == "report":
             audio = "00" * r.choice([0, 0, 80, 160, 240, 1]) or "-"
@@ -141,7 +142,7 @@ def soak(count, seed):
 def main():
     given = usage.arguments(__doc__)
     count = int(given[0]) if given else 20_000
-    seeds = [int(given[1])] if len(given) > 1 else range(1, 5)
+    seeds = [int(given[1])] if len(given) > 1 else range(len(MODES))
     for seed in seeds:
         soak(count, seed)
 

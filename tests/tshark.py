@@ -168,8 +168,8 @@ def same(name, ours, theirs):
 
 
 def main():
-    written = usage.arguments(__doc__, "--written") == ["--written"]
-    cases = list(made_by_our_writer() if written else made_by_the_model())
+    ours = usage.arguments(__doc__, "--written") == ["--written"]
+    cases = list(made_by_our_writer() if ours else made_by_the_model())
     rows = seen_by_tshark([packet for _, packet, _ in cases])
     assert len(rows) == len(cases), "tshark left a packet out"
     differences = 0

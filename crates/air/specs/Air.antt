@@ -77,15 +77,17 @@ unfoldable pub among : List ℕ → ℕ → Bool
 among [] n = false
 among (m ∷ ms) n = eqb m n || among ms n
 
--- the smallest of the seats of a set, 0 if there is none
+-- the first of rising numbers that is in a set, so the smallest of the set; 0 if there is none
 unfoldable pub smallest : List ℕ → (ns : List ℕ) → ℕ
 smallest set [] = 0
 smallest set (n ∷ ns) = cond (among set n) n (smallest set ns)
 
+-- how many of the numbers are in a set
 unfoldable pub howMany : List ℕ → (ns : List ℕ) → ℕ
 howMany set [] = 0
 howMany set (n ∷ ns) = cond (among set n) (suc (howMany set ns)) (howMany set ns)
 
+-- "or a seat on the air last sent PTTS 1"
 unfoldable pub anySends : List Seat → List ℕ → (ns : List ℕ) → Bool
 anySends seats set [] = false
 anySends seats set (n ∷ ns) = (among set n && seatOf seats n .heard .field .ptts) || anySends seats set ns

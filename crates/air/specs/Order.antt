@@ -1,4 +1,4 @@
--- 01, Who is on the air: "the order in which present keyings began", kept as the seats' numbers, earliest first.
+-- 01, Required forms by place: "the order in which present keyings began", kept as the seats' numbers, earliest first.
 use Prim.Native.Nat.{ℕ}
 use mathlib.Core.Bool.{Bool, cond, not, _&&_}
 use mathlib.Core.List.{List, [], _∷_, _++_}

@@ -26,8 +26,7 @@ pub struct Air {
     pub ptts: bool,
 }
 
-// the rank of Coupling
-const COUPLING: u8 = 2;
+const COUPLING_RANK: u8 = 2;
 
 // Test, Coupling, Normal, Priority, Emergency, lowest first; 0 for off and for the reserved codes.
 fn rank(ptt: u8) -> u8
@@ -166,8 +165,8 @@ fn with_added(
     ensures { λ r. ⌜ r ≡ markAll leads (addedAt coupling top order ranks) ⌝ }
 {
     if coupling {
-        if COUPLING < top {
-            return mark_at(leads, COUPLING, order, ranks);
+        if COUPLING_RANK < top {
+            return mark_at(leads, COUPLING_RANK, order, ranks);
         }
     }
     leads

@@ -1,7 +1,7 @@
 -- 01, Order of packets. Over plain numbers: was a packet heard before, the last sequence accepted, the new one.
 use Prim.Native.Nat.{ℕ, _-_, _%_}
-use mathlib.Core.Bool.{Bool, cond, _&&_}
-use lib.Dec.{ltb}
+use mathlib.Core.Bool.{Bool, cond, not, _&&_}
+use lib.Dec.{ltb, eqb}
 use lib.IntN.{ℤ, pos, negsuc, subℕ, _-ℤ_}
 use lib.Signed.{leZ}
 
@@ -13,6 +13,10 @@ wrapped (negsuc n) = 65535 - n % 65536
 -- ".. taken modulo 65536 into -32768 to 32767."
 unfoldable pub centred : ℕ → ℤ
 centred n = cond (ltb n 32768) (pos n) (pos n -ℤ pos 65536)
+
+-- "The first accepted packet fixes the seat's SSRC"; refusal 19: "other SSRC"
+abbrev pub otherSsrc : (heard : Bool) (fixed new : ℕ) → Bool
+otherSsrc heard fixed new = heard && not (eqb new fixed)
 
 -- "After that the distance is new sequence minus last accepted, taken modulo 65536 .."
 unfoldable pub distance : (last new : ℕ) → ℤ

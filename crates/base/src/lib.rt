@@ -11,6 +11,7 @@ pub mod order;
 pub use order::distance;
 pub use order::late;
 pub use order::missing;
+pub use order::other_ssrc;
 pub use order::size;
 
 // The byte at a place, and 0 past the end.

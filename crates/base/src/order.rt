@@ -2,7 +2,14 @@
 ghost use mathlib.Core.Path.{_≡_};
 ghost use Prim.Native.Nat.{_<_};
 ghost use lib.IntN.{subℕ};
-ghost use Rattle.base.specs.Order.{wrapped, distance, late, size, missing};
+ghost use Rattle.base.specs.Order.{otherSsrc, wrapped, distance, late, size, missing};
+
+// Refusal 19: a packet was heard before, and the new one has another SSRC.
+pub fn other_ssrc(heard: bool, fixed: u32, new: u32) -> bool
+    ensures { λ r. ⌜ r ≡ otherSsrc heard fixed new ⌝ }
+{
+    heard & (new != fixed)
+}
 
 // From the last sequence forward to the new one, 0 to 65535.
 fn gap(last: u16, new: u16) -> u32

@@ -5,7 +5,7 @@ use mathlib.Core.Bool.{true, false}
 use mathlib.Core.List.{List}
 use lib.ListN.{length}
 use borrow.Author.Tests.{ltb-false, not-false}
-use Rattle.base.specs.Order.{late}
+use Rattle.base.specs.Order.{otherSsrc, late}
 use Rattle.packet.specs.Packet.{field}
 use Rattle.packet.specs.Refusals.{NoCase}
 use Rattle.packet.specs.Reading.{readerRefusals, messageOf, messageWith}
@@ -14,7 +14,7 @@ use Rattle.packet.proofs.Judged.{none-of-both}
 use Rattle.packet.proofs.Passed.{Passed, passed, field-passed}
 use Rattle.seats.specs.Record.{noSuchSeat, seatOf, lesson}
 use Rattle.seats.specs.Opening.{ownId}
-use Rattle.bench.specs.Hearing.{otherSsrc, keyingBarred, idAllowed, sideBarred, messageIn, messageRefusals, packetRefusals}
+use Rattle.bench.specs.Hearing.{keyingBarred, idAllowed, sideBarred, messageIn, messageRefusals, packetRefusals}
 use Rattle.bench.specs.Reporting.{audioBarred, reportBytes, reportRefusals}
 use Rattle.seats.specs.declared.record.Setup.{Setup}
 use Rattle.seats.specs.declared.record.Seat.{Seat}
@@ -24,7 +24,7 @@ pub record PacketAccepted (setup : Setup) (n : ℕ) (seats : List Seat) (p : Lis
   pub is-seat : noSuchSeat n ≡ false
   pub was-open : seatOf seats n .opened ≡ true
   pub was-read : Passed direction.Tx (setup .ext) p
-  pub same-ssrc : otherSsrc (seatOf seats n .heard) (messageIn p) ≡ false
+  pub same-ssrc : otherSsrc (seatOf seats n .heard .any) (seatOf seats n .heard .ssrc) (messageIn p .ssrc) ≡ false
   pub not-late : late (seatOf seats n .heard .any) (seatOf seats n .heard .sequence) (messageIn p .sequence) ≡ false
   pub may-key : keyingBarred (lesson setup n) (seatOf seats n .call) (messageIn p) ≡ false
   pub id-allowed : idAllowed (ownId n (seatOf seats n .call)) (messageIn p) ≡ true

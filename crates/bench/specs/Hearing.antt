@@ -5,7 +5,7 @@ use mathlib.Core.List.{List, [], _∷_, _++_}
 use lib.Dec.{eqb, leb}
 use lib.ListN.{length, set, getD}
 use Rattle.base.specs.Bytes.{partOf}
-use Rattle.base.specs.Order.{late, missing}
+use Rattle.base.specs.Order.{otherSsrc, late, missing}
 use Rattle.packet.specs.Packet.{payload, payloadAt, off, coupling, test}
 use Rattle.packet.specs.Refusals.{Case, _if_, Answer, accepted, refused, judged}
 use Rattle.packet.specs.Reading.{readerRefusals, messageOf, asTx}
@@ -61,10 +61,6 @@ fieldHeard m =
 abbrev pub heardOf : Tx → Heard
 heardOf m = record { any = true; ssrc = m .ssrc; sequence = m .sequence; field = fieldHeard m }
 
--- "19 | other SSRC": "The first accepted packet fixes the seat's SSRC".
-abbrev pub otherSsrc : Heard → Tx → Bool
-otherSsrc h m = h .any && not (eqb (m .ssrc) (h .ssrc))
-
 -- "21 | PTT on for Idle or Rxonly; Coupling PTT for TxRx; lesson seat with PTT on other than Test"
 abbrev pub pttOn : Tx → Bool
 pttOn m = not (eqb (m .ptt) off)
@@ -87,7 +83,7 @@ messageIn p = asTx (messageOf p)
 -- 19 to 23, of a message that was read.
 unfoldable pub messageRefusals : Setup → (n : ℕ) → Seat → Tx → List Case
 messageRefusals setup n s m =
-    19 if otherSsrc (s .heard) m
+    19 if otherSsrc (s .heard .any) (s .heard .ssrc) (m .ssrc)
     ∷ 20 if late (s .heard .any) (s .heard .sequence) (m .sequence)
     ∷ 21 if keyingBarred (lesson setup n) (s .call) m
     ∷ 22 if not (idAllowed (ownId n (s .call)) m)
@@ -101,7 +97,7 @@ packetRefusals setup n seats p =
     ++ readerRefusals direction.Tx (setup .ext) p
     ++ messageRefusals setup n (seatOf seats n) (messageIn p)
 
--- "Silence. .. each accepted packet set[s] a seat's time left to period times multiplier ms."
+-- "Opening and each accepted packet set a seat's time left to period times multiplier ms." (A packet, here.)
 unfoldable pub heardSeat : Seat → Tx → Seat
 heardSeat s m =
     record {
@@ -148,7 +144,7 @@ unfoldable pub isSent : Bench → (n : ℕ) → Tx → Bool
 isSent b n m = getD (benchAir (heardBench b n m) .on) (n - 1) false
 
 -- "Accepted, it answers: packets missing before it, whether to reply now, the side in use after it, and the audio to send"
--- (where the audio lies in the packet; nothing at place 0 where none is sent)
+-- (where the audio lies in the packet: its payload, empty for R2S, if the seat is on the air after it; else nothing at place 0)
 unfoldable pub hearing : Bench → (n : ℕ) → List ℕ → Hearing
 hearing b n p =
     record {
@@ -167,7 +163,7 @@ unfoldable pub audioIn : Answer Hearing → List ℕ → List ℕ
 audioIn (accepted h) p = cond (leb (h .at + h .length) (length p)) (partOf (h .at) (h .at + h .length) p) []
 audioIn (refused n c) p = []
 
--- where that part begins in the packet: an empty one, for want of audio, at its beginning
+-- where that part begins in the packet: behind the words if the seat is on the air, else at the packet's beginning
 unfoldable pub audioAt : Answer Hearing → List ℕ → ℕ
 audioAt (accepted h) p = cond (leb (h .at + h .length) (length p)) (h .at) 0
 audioAt (refused n c) p = 0

@@ -5,11 +5,10 @@ use mathlib.Core.List.{List, [], _∷_}
 use lib.Dec.{ltb, leb, eqb}
 use lib.IntN.{ℤ}
 use lib.ListN.{length, getD}
-use Rattle.packet.specs.Packet.{audioLength}
 use Rattle.packet.specs.Items.{rssi}
 use Rattle.packet.specs.Quality.{quality}
 use Rattle.packet.specs.Refusals.{Case, _if_, Answer, judged}
-use Rattle.packet.specs.Writing.{fromRx, encode, filled}
+use Rattle.packet.specs.Writing.{fromRx, encode, audioWritable, filled}
 use Rattle.packet.specs.declared.message.SqiItem.{SqiItem}
 use Rattle.packet.specs.declared.message.SqiItem.the-variants as sqi
 use Rattle.packet.specs.declared.message.SideItem.{SideItem}
@@ -21,6 +20,7 @@ use Rattle.seats.specs.declared.record.Bench.{Bench}
 use Rattle.air.specs.declared.air.Air.{Air}
 
 -- "ptt-id: 0 if off; the seat's own if it is on the air at the top rank; else the smallest on the air at the top rank."
+-- (A seat that leads is keyed, so TxRx or Coupling, and its own ptt-id is its number: Kept, may-key.)
 abbrev pub idTold : Air → (n : ℕ) → ℕ
 idTold air n = cond (getD (air .leads) (n - 1) false) n (air .id)
 
@@ -62,7 +62,7 @@ reportBytes b n timestamp sound = encode (b .setup .ext) (fromRx (reportOf b n t
 
 -- "25 | report audio not 0, 80, 160 or 240 bytes, or audio while SQU is 0"
 abbrev pub audioBarred : (signals length : ℕ) → Bool
-audioBarred signals n = not (eqb n 0 || audioLength n) || (not (squTold signals) && not (eqb n 0))
+audioBarred signals n = not (audioWritable n) || (not (squTold signals) && not (eqb n 0))
 
 -- "Report 13, 14, 25, 26."
 unfoldable pub reportRefusals : Bench → (n timestamp : ℕ) → (audio : List ℕ) → (room : ℕ) → List Case

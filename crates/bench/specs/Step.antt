@@ -1,9 +1,9 @@
 -- Every call of 01 as one type, and what each does as one definition: the answer, and the bench after it.
 use Prim.Native.Nat.{ℕ}
-use mathlib.Core.Bool.{Bool}
+use mathlib.Core.Bool.{Bool, true, false, cond}
 use mathlib.Core.List.{List, [], _∷_}
 use lib.IntN.{ℤ}
-use Rattle.packet.specs.Refusals.{Answer, accepted, mapped}
+use Rattle.packet.specs.Refusals.{Answer, accepted, refused, mapped}
 use Rattle.seats.specs.Record.{settled}
 use Rattle.seats.specs.Opening.{openSaid, openedBench, closeSaid, closedBench}
 use Rattle.seats.specs.Ticking.{tickSaid, tickSets, tickedBench}
@@ -53,7 +53,17 @@ step b (received signals level) = record { answer = accepted done; bench = recei
 step b (transmitter healthy) = record { answer = accepted done; bench = transmitterBench b healthy }
 step b (side standby) = outcome (sideSaid b) (λ u. done) b (sidedBench b standby)
 
--- A run of calls, from the start.
+-- The bench after a run of calls.
 unfoldable pub after : Bench → List Call → Bench
 after b [] = b
 after b (c ∷ cs) = after (step b c .bench) cs
+
+-- The accepted calls of a run.
+abbrev pub wasAccepted : {A : Type 0} → Answer A → Bool
+wasAccepted (accepted a) = true
+wasAccepted (refused n c) = false
+
+unfoldable pub acceptedCalls : Bench → List Call → List Call
+acceptedCalls b [] = []
+acceptedCalls b (c ∷ cs) =
+    cond (wasAccepted (step b c .answer)) (c ∷ acceptedCalls (step b c .bench) cs) (acceptedCalls (step b c .bench) cs)

@@ -1,15 +1,15 @@
 // Whether a message is let in: refusals 19 to 23.
 ghost use mathlib.Core.Path.{_≡_};
 ghost use Rattle.packet.specs.Refusals.{verdictOf};
-ghost use Rattle.bench.specs.Hearing.{otherSsrc, keyingBarred, idAllowed, sideBarred};
+ghost use Rattle.bench.specs.Hearing.{keyingBarred, idAllowed, sideBarred};
 ghost use Rattle.bench.specs.Steps.{messageVerdict};
 use crate::memory::has_side;
 use base::late;
+use base::other_ssrc;
 use packet::Refusal;
 use packet::Tx;
 use packet::refusal::Verdict;
 use seats::opening::own_id;
-use seats::record::Heard;
 use seats::record::Seat;
 use seats::record::Setup;
 use seats::record::lesson_seat;
@@ -20,7 +20,7 @@ pub fn message_verdict(setup: Setup, n: u8, s: Seat, m: Tx) -> Verdict
 {
     let heard = s.heard;
     let lesson = lesson_seat(setup, n);
-    if other_ssrc(heard, m) {
+    if other_ssrc(heard.any, heard.ssrc, m.ssrc) {
         return Verdict::Refused(Refusal::OtherSsrc);
     }
     if late(heard.any, heard.sequence, m.sequence) {
@@ -36,13 +36,6 @@ pub fn message_verdict(setup: Setup, n: u8, s: Seat, m: Tx) -> Verdict
         return Verdict::Refused(Refusal::SideNotAllowed);
     }
     Verdict::Fine
-}
-
-// 19: the first accepted packet fixes the seat's SSRC.
-fn other_ssrc(h: Heard, m: Tx) -> bool
-    ensures { λ r. ⌜ r ≡ otherSsrc h m ⌝ }
-{
-    h.any & (m.ssrc != h.ssrc)
 }
 
 // 21: PTT on for Idle or Rxonly; Coupling PTT for TxRx; a lesson seat's PTT on other than Test.

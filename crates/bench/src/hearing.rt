@@ -26,7 +26,8 @@ use seats::record::Bench;
 use seats::record::Seat;
 use seats::record::seat_of;
 
-// What an accepted packet answers. The audio to send lies in the packet, from `at` on.
+// What an accepted packet answers: packets missing before it, whether to reply now, the side in use after it, and where the
+// audio to send lies in the packet (0 and 0 where the seat is not on the air).
 #[repr(C)]
 pub struct Hearing {
     pub missing: u16,
@@ -46,7 +47,7 @@ pub struct Packeted {
     pub answer: PacketAnswer,
 }
 
-// 13, 14, 1 to 12, 19 to 23, in this order.
+// A packet for seat n: what it answers, and the bench after it. Refused by 13, 14, 1 to 12, 19 to 23, in this order.
 pub fn packet(b: Bench, n: u8, p: &[u8]) -> Packeted
     ensures answer { λ r. ⌜ packetAnswer (r .answer) ≡ packetSaid b n (now (p .entry)) ⌝ }
     ensures bench { λ r. ⌜ r .bench ≡ settled (packetSaid b n (now (p .entry))) b (heardBench b n (messageIn (now (p .entry)))) ⌝ }
@@ -66,7 +67,7 @@ pub fn packet(b: Bench, n: u8, p: &[u8]) -> Packeted
     }
 }
 
-// The audio to send, as a part of the lent packet; an empty part at its beginning where the answer has none in it.
+// The audio to send, as a part of the lent packet; an empty part where there is none, or where answer and packet don't fit.
 pub fn audio(answer: PacketAnswer, p: &[u8]) -> &[u8]
     ensures holds { λ r. ⌜ now r ≡ audioIn (packetAnswer answer) (now (p .entry)) ⌝ }
     ensures lies { λ r. ⌜ LiesAt (p .entry) (audioAt (packetAnswer answer) (now (p .entry))) r ⌝ }

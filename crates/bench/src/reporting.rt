@@ -29,7 +29,8 @@ pub struct Reported {
     pub answer: Written,
 }
 
-// 13, 14, 25, 26, in this order. A report of an open seat is always writable, so that 27 never comes.
+// A report for seat n, written into `out`: its length, and the bench with the next sequence number. Refused by 13, 14, 25, 26,
+// in this order; what a report tells is always writable, so that 27 never comes.
 pub fn report(b: Bench, n: u8, timestamp: u32, audio: &[u8], out: &mut [u8]) -> Reported
     ensures answer { λ r. ⌜ writtenAnswer (r .answer) ≡ reportSaid b n timestamp (now (audio .entry)) (length (now (out .entry))) ⌝ }
     ensures buffer { λ _. ⌜ now (out .exit) ≡ reportBuffer b n timestamp (now (audio .entry)) (now (out .entry)) ⌝ }

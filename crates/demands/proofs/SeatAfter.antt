@@ -13,11 +13,11 @@ use Rattle.seats.specs.Ticking.{tickedSeat, tickedBench}
 use Rattle.seats.specs.Radio.{receivedBench, transmitterBench, sidedBench}
 use Rattle.bench.specs.Hearing.{heardSeat, heardBench, messageIn}
 use Rattle.bench.specs.Reporting.{reportedBench}
-use Rattle.bench.specs.Step.{Call, opening, closing, packet, tick, report, received, transmitter, side, Said, step, after}
+use Rattle.bench.specs.Step.{Call, opening, closing, packet, tick, report, received, transmitter, side, Said, step, after, wasAccepted, acceptedCalls}
 use Rattle.seats.specs.declared.record.Seat.{Seat}
 use Rattle.seats.specs.declared.record.Bench.{Bench}
 use Rattle.demands.specs.ExactCalls.{refusalsOf}
-use Rattle.demands.specs.SeatAfter.{seatAfter, wasAccepted, acceptedCalls, seatThrough, SeatsByCalls}
+use Rattle.demands.specs.SeatAfter.{seatAfter, seatThrough, SeatsByCalls}
 use Rattle.demands.proofs.Exact.{exact-judged}
 use Rattle.demands.proofs.Calls.{saidBy, benchAfter, step-answer, accepted-bench, after-call}
 use Rattle.demands.proofs.ExactCalls.{refused-keeps}

@@ -60,6 +60,7 @@ tight-base = record {
   bit = λ k a r s d e. meet;
   part = λ k a r s d e p q. (meet (p .0) (q .0), same-place r s (p .1) (q .1));
   copy-in = λ k a r s d e p q. (meet (p .0) (q .0), meet (p .1) (q .1));
+  other-ssrc = λ k a r s d e. meet;
   distance = λ k a r s d e. meet;
   late = λ k a r s d e. meet;
   size = λ k a r s d e. meet;

@@ -9,7 +9,7 @@ use lib.ListN.{length, getD}
 use Rattle.base.specs.Bytes.{Bytes, bit}
 use Rattle.packet.specs.Packet.{off, coupling, test}
 use Rattle.seats.specs.Record.{seatNumbers, nothingHeard, closedSeat, freshBench, seatOf, lesson}
-use Rattle.seats.specs.Opening.{isTxRx, isCoupling, holdsCoupling, ownId}
+use Rattle.seats.specs.Opening.{isTxRx, isCoupling, shortest, longest, fewest, most, holdsCoupling, ownId}
 use Rattle.bench.specs.Step.{Call, opening, closing, packet, tick, report, received, transmitter, side, step, after}
 use Rattle.seats.specs.declared.record.Setup.{Setup}
 use Rattle.seats.specs.declared.record.Field.{Field}
@@ -37,10 +37,10 @@ pub record FieldKept (isLesson pair : Bool) (call own : ℕ) (f : Field) : Type 
 -- What an open seat counts.
 pub record TimesKept (s : Seat) : Type 0 where
   -- "R2S period 20 to 1000 ms, multiplier 2 to 50"
-  pub period-least : 20 ≤ s .period
-  pub period-most : s .period ≤ 1000
-  pub multiplier-least : 2 ≤ s .multiplier
-  pub multiplier-most : s .multiplier ≤ 50
+  pub period-least : shortest ≤ s .period
+  pub period-most : s .period ≤ longest
+  pub multiplier-least : fewest ≤ s .multiplier
+  pub multiplier-most : s .multiplier ≤ most
   -- "the seat is closed if nothing is left"
   pub some-left : 1 ≤ s .left
   pub left-most : s .left ≤ s .period * s .multiplier

@@ -2,16 +2,16 @@
 -- it names alone; only a tick goes to all.
 use Prim.Native.Nat.{ℕ}
 use mathlib.Core.Path.{_≡_}
-use mathlib.Core.Bool.{Bool, true, false, cond}
+use mathlib.Core.Bool.{cond}
 use mathlib.Core.List.{List, [], _∷_}
 use lib.Dec.{eqb}
 use lib.ListN.{length}
-use Rattle.packet.specs.Refusals.{NoCase, Answer, accepted, refused}
+use Rattle.packet.specs.Refusals.{NoCase}
 use Rattle.seats.specs.Record.{closedSeat, openedSeat, seatOf}
 use Rattle.seats.specs.Opening.{callCode}
 use Rattle.seats.specs.Ticking.{tickedSeat}
 use Rattle.bench.specs.Hearing.{heardSeat, messageIn}
-use Rattle.bench.specs.Step.{Call, opening, closing, packet, tick, report, received, transmitter, side, step, after}
+use Rattle.bench.specs.Step.{Call, opening, closing, packet, tick, report, received, transmitter, side, step, after, acceptedCalls}
 use Rattle.seats.specs.declared.record.Seat.{Seat}
 use Rattle.seats.specs.declared.record.Bench.{Bench}
 use Rattle.demands.specs.ExactCalls.{refusalsOf}
@@ -27,16 +27,7 @@ seatAfter (received signals level) n s = s
 seatAfter (transmitter healthy) n s = s
 seatAfter (side standby) n s = s
 
--- The accepted calls of a run, and what they make of seat n, one after the other.
-abbrev pub wasAccepted : {A : Type 0} → Answer A → Bool
-wasAccepted (accepted a) = true
-wasAccepted (refused n c) = false
-
-unfoldable pub acceptedCalls : Bench → List Call → List Call
-acceptedCalls b [] = []
-acceptedCalls b (c ∷ cs) =
-    cond (wasAccepted (step b c .answer)) (c ∷ acceptedCalls (step b c .bench) cs) (acceptedCalls (step b c .bench) cs)
-
+-- What the accepted calls make of seat n, one after the other.
 unfoldable pub seatThrough : List Call → (n : ℕ) → Seat → Seat
 seatThrough [] n s = s
 seatThrough (c ∷ cs) n s = seatThrough cs n (seatAfter c n s)

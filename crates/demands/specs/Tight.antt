@@ -1,5 +1,5 @@
 -- 01, How tightly the promises bind: "For every input each public function's promise leaves one possible answer, one next
--- state and one content of the lent buffer, also when it refuses. Show that any two that satisfy it coincide."
+-- state and one content of the lent buffer, also when it refuses. Show that any two that satisfy it coincide .."
 -- A line for each public function of each crate; docs/PROMISES.md is the table. No promise is said again here: a line
 -- cites the `ensures` that stands in the code, as the kit reads it (`Reads.Learnt`, what a caller may rely on).
 use Prim.Native.Nat.{ℕ}
@@ -40,6 +40,7 @@ pub record TightBase : Type 1 where
   pub bit : OneResult base.bit.Reads.Learnt
   pub part : OnePart base.part.Reads.Learnt
   pub copy-in : OneResultAndBuffer base.«copy_in».Reads.Learnt (λ k e. e .0)
+  pub other-ssrc : OneResult base.other_ssrc.Reads.Learnt
   pub distance : OneResult base.distance.Reads.Learnt
   pub late : OneResult base.late.Reads.Learnt
   pub size : OneResult base.size.Reads.Learnt
@@ -110,7 +111,7 @@ pub record TightShow : Type 1 where
   pub answer-line : OneResultAndBuffer show.answer_line.Reads.Learnt (λ k e. e .0)
   pub decode : OneResultAndBuffer show.decode.Reads.Learnt (λ k e. e .0)
 
--- All 66.
+-- All 67.
 pub record Tight : Type 1 where
   pub base : TightBase
   pub packet : TightPacket

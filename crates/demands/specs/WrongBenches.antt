@@ -83,7 +83,7 @@ wrong (ignoring says) b c = record { answer = says b c; bench = b }
 wrong nodding b c = cond (isLater b c) (nod b) (step b c)
 wrong (inventing count) b c = retold (withCount count) b c
 
--- A run of a machine, from the start.
+-- The bench after a run of calls of a machine.
 unfoldable pub afterBy : Machine → Bench → List Call → Bench
 afterBy machine b [] = b
 afterBy machine b (c ∷ cs) = afterBy machine (machine b c .bench) cs

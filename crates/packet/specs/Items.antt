@@ -46,6 +46,16 @@ itemsIn (head ∷ value ∷ rest) =
     cond (eqb head 0) (cond (allZero (value ∷ rest)) (found []) broken)
     (cond (eqb (itemLength head) 1) (behind (record { type = itemType head; value = value }) (itemsIn rest)) broken)
 
+-- The types of the table.
+abbrev pub sqiType : ℕ
+sqiType = 1
+
+abbrev pub climaxType : ℕ
+climaxType = 2
+
+abbrev pub sideType : ℕ
+sideType = 5
+
 -- "1 SQI | RX | quality in the high 5 bits; method in the low 3: 0 RSSI, 1 AGC, 2 C/N, 3 PSD.
 -- With RSSI quality is 0 to 15, else 0 to 31"
 abbrev pub quality : ℕ → ℕ
@@ -84,9 +94,9 @@ inRx d = not (inTx d)
 -- The table of items. "Every other type is refused, type 4 (DDC) too, as 000 gives no layout for it."
 unfoldable pub itemAllowed : Direction → Item → Bool
 itemAllowed d i =
-    (eqb (i .type) 1 && inRx d && sqiAllowed (quality (i .value)) (method (i .value)))
-    || (eqb (i .type) 2 && inTx d && climaxAllowed (i .value))
-    || (eqb (i .type) 5 && sideAllowed (i .value))
+    (eqb (i .type) sqiType && inRx d && sqiAllowed (quality (i .value)) (method (i .value)))
+    || (eqb (i .type) climaxType && inTx d && climaxAllowed (i .value))
+    || (eqb (i .type) sideType && sideAllowed (i .value))
 
 unfoldable pub allAllowed : Direction → List Item → Bool
 allAllowed d [] = true
@@ -124,15 +134,15 @@ itemsOf x bytes = cond (eqb x 0) [] (listed (itemsIn bytes))
 -- What a message keeps of them.
 unfoldable pub sqiAmong : List Item → SqiItem
 sqiAmong [] = sqi.Absent
-sqiAmong (i ∷ is) = cond (eqb (i .type) 1) (sqi.Is (quality (i .value)) (method (i .value))) (sqiAmong is)
+sqiAmong (i ∷ is) = cond (eqb (i .type) sqiType) (sqi.Is (quality (i .value)) (method (i .value))) (sqiAmong is)
 
 unfoldable pub climaxAmong : List Item → ClimaxItem
 climaxAmong [] = climax.Absent
-climaxAmong (i ∷ is) = cond (eqb (i .type) 2) (climax.Is (delay (i .value))) (climaxAmong is)
+climaxAmong (i ∷ is) = cond (eqb (i .type) climaxType) (climax.Is (delay (i .value))) (climaxAmong is)
 
 unfoldable pub sideAmong : List Item → SideItem
 sideAmong [] = side.Absent
-sideAmong (i ∷ is) = cond (eqb (i .type) 5) (sideOf (i .value)) (sideAmong is)
+sideAmong (i ∷ is) = cond (eqb (i .type) sideType) (sideOf (i .value)) (sideAmong is)
 
 unfoldable pub kept : List Item → Items
 kept is = record { sqi = sqiAmong is; climax = climaxAmong is; side = sideAmong is }

@@ -4,7 +4,7 @@ use Prim.Native.Nat.{ℕ}
 use mathlib.Core.Bool.{Bool, true, false, cond, not}
 use mathlib.Core.List.{List, foldl}
 use lib.Dec.{eqb}
-use Rattle.packet.specs.Items.{itemType, itemLength, quality, method, sqiAllowed, delay, climaxAllowed, sideAllowed, sideOf, itemsAllowed, itemsOf, kept}
+use Rattle.packet.specs.Items.{itemType, itemLength, sqiType, climaxType, sideType, quality, method, sqiAllowed, delay, climaxAllowed, sideAllowed, sideOf, itemsAllowed, itemsOf, kept}
 use Rattle.packet.specs.declared.message.Direction.{Direction}
 use Rattle.packet.specs.declared.message.Direction.the-variants.{Tx, Rx}
 use Rattle.packet.specs.declared.message.SqiItem.{SqiItem}
@@ -42,9 +42,9 @@ scanAt m k = record { mode = m; items = k }
 unfoldable pub beginOf : Direction → Items → ℕ → Scan
 beginOf d k b =
     cond (not (eqb (itemLength b) 1)) (scanAt Broken k)
-    (cond (eqb (itemType b) 1) (cond (sqiFree d (k .sqi)) (scanAt Sqi k) (scanAt Broken k))
-    (cond (eqb (itemType b) 2) (cond (climaxFree d (k .climax)) (scanAt Climax k) (scanAt Broken k))
-    (cond (eqb (itemType b) 5) (cond (sideFree (k .side)) (scanAt Side k) (scanAt Broken k))
+    (cond (eqb (itemType b) sqiType) (cond (sqiFree d (k .sqi)) (scanAt Sqi k) (scanAt Broken k))
+    (cond (eqb (itemType b) climaxType) (cond (climaxFree d (k .climax)) (scanAt Climax k) (scanAt Broken k))
+    (cond (eqb (itemType b) sideType) (cond (sideFree (k .side)) (scanAt Side k) (scanAt Broken k))
     (scanAt Broken k))))
 
 abbrev pub withSqi : Items → ℕ → Items

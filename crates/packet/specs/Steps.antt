@@ -2,7 +2,7 @@
 use Prim.Native.Nat.{ℕ}
 use mathlib.Core.List.{List}
 use lib.ListN.{take, drop}
-use Rattle.packet.specs.Refusals.{Answer, accepted, refused, refusal, judged}
+use Rattle.packet.specs.Refusals.{Answer, accepted, refused, refusal, causeOf, judged}
 use Rattle.packet.specs.Reading.{readerRefusals, messageOf, messageWith}
 use Rattle.packet.specs.declared.message.Direction.{Direction}
 use Rattle.packet.specs.declared.message.Direction.the-variants.{Tx}
@@ -31,7 +31,7 @@ payloadAnswer p k = judged (drop 11 (readerRefusals Tx 0 p)) (messageWith p k)
 
 unfoldable pub itemsAnswer : List ℕ → ItemsRead → Answer Message
 itemsAnswer p (items.Items k) = payloadAnswer p k
-itemsAnswer p items.Broken = refused 11 2012
+itemsAnswer p items.Broken = refused 11 (causeOf 11)
 
 abbrev pub readAnswer : AnyRead → Answer Message
 readAnswer (code.Message m) = accepted m

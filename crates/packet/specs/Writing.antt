@@ -6,7 +6,7 @@ use lib.ListN.{length, drop, replicate}
 use lib.Dec.{ltb, leb, eqb}
 use Rattle.base.specs.Bytes.{bytes8, bytes16, bytes32, placed, bit}
 use Rattle.packet.specs.Packet.{audio, r2s, audioLength, pttAllowed}
-use Rattle.packet.specs.Items.{Item, someItem, sqiAllowed}
+use Rattle.packet.specs.Items.{Item, sqiType, climaxType, sideType, someItem, sqiAllowed}
 use Rattle.packet.specs.Refusals.{Case, _if_, Answer, accepted, refused, refusal, judged}
 use Rattle.packet.specs.declared.message.SqiItem.{SqiItem}
 use Rattle.packet.specs.declared.message.SqiItem.the-variants as sqi
@@ -55,16 +55,16 @@ fromRx m =
 -- The items of a message, "by rising type".
 abbrev pub sqiListed : SqiItem → List Item
 sqiListed sqi.Absent = []
-sqiListed (sqi.Is quality method) = record { type = 1; value = placed 8 0 5 quality + placed 8 5 3 method } ∷ []
+sqiListed (sqi.Is quality method) = record { type = sqiType; value = placed 8 0 5 quality + placed 8 5 3 method } ∷ []
 
 abbrev pub climaxListed : ClimaxItem → List Item
 climaxListed climax.Absent = []
-climaxListed (climax.Is delay) = record { type = 2; value = placed 8 0 1 1 + placed 8 1 7 delay } ∷ []
+climaxListed (climax.Is delay) = record { type = climaxType; value = placed 8 0 1 1 + placed 8 1 7 delay } ∷ []
 
 abbrev pub sideListed : SideItem → List Item
 sideListed side.Absent = []
-sideListed side.Main = record { type = 5; value = placed 8 0 1 0 } ∷ []
-sideListed side.Standby = record { type = 5; value = placed 8 0 1 1 } ∷ []
+sideListed side.Main = record { type = sideType; value = placed 8 0 1 0 } ∷ []
+sideListed side.Standby = record { type = sideType; value = placed 8 0 1 1 } ∷ []
 
 unfoldable pub risingItems : Items → List Item
 risingItems k = sqiListed (k .sqi) ++ climaxListed (k .climax) ++ sideListed (k .side)

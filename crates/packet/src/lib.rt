@@ -25,6 +25,7 @@ pub use reader::payload;
 pub use reader::read_rx;
 pub use reader::read_tx;
 pub use refusal::Refusal;
+pub use refusal::Verdict;
 pub use refusal::cause;
 pub use refusal::number;
 pub use writer::Written;

@@ -29,8 +29,20 @@ abbrev pub asksCoupling : Request → Bool
 asksCoupling r = isCoupling (callCode (r .call))
 
 -- "R2S period 20 to 1000 ms, multiplier 2 to 50"
+abbrev pub shortest : ℕ
+shortest = 20
+
+abbrev pub longest : ℕ
+longest = 1000
+
+abbrev pub fewest : ℕ
+fewest = 2
+
+abbrev pub most : ℕ
+most = 50
+
 abbrev pub timesAllowed : Request → Bool
-timesAllowed r = leb 20 (r .period) && leb (r .period) 1000 && leb 2 (r .multiplier) && leb (r .multiplier) 50
+timesAllowed r = leb shortest (r .period) && leb (r .period) longest && leb fewest (r .multiplier) && leb (r .multiplier) most
 
 -- an open seat of call type Coupling
 abbrev pub holdsCoupling : Seat → Bool

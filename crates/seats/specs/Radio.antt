@@ -34,7 +34,7 @@ transmitterBench b healthy =
       level = b .level;
     }
 
--- the side in use set, by the radio or by an item
+-- the side in use, set by the radio itself
 unfoldable pub sidedBench : Bench → (standby : Bool) → Bench
 sidedBench b standby =
     record {

@@ -33,7 +33,7 @@ abbrev pub closedSeat : Seat
 closedSeat =
     record { opened = false; call = 0; period = 0; multiplier = 0; left = 0; phase = 0; ssrc = 0; heard = nothingHeard }
 
--- "Opening .. set[s] a seat's time left to period times multiplier ms."
+-- "Opening and each accepted packet set a seat's time left to period times multiplier ms." (Opening, here.)
 unfoldable pub openedSeat : (call period multiplier ssrc : ℕ) → Seat
 openedSeat call period multiplier ssrc =
     record {

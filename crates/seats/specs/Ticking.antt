@@ -1,4 +1,4 @@
--- 01, Silence: "Opening and each accepted packet set a seat's time left to period times multiplier ms."
+-- 01: "Tick with 0 to 1000 elapsed ms." And Silence: what a tick does to a seat.
 use Prim.Native.Nat.{ℕ, _+_, _-_, _%_}
 use mathlib.Core.Bool.{Bool, false, cond, _&&_}
 use mathlib.Core.List.{List, [], _∷_, map}
@@ -41,8 +41,11 @@ unfoldable pub tickedSeat : (ms : ℕ) → Seat → Seat
 tickedSeat ms s = cond (s .opened) (cond (leb (s .left) ms) closedSeat (aged ms s)) s
 
 -- "24 | elapsed above 1000"
+abbrev pub tooLong : (ms : ℕ) → Bool
+tooLong ms = ltb 1000 ms
+
 unfoldable pub tickRefusals : (ms : ℕ) → List Case
-tickRefusals ms = 24 if ltb 1000 ms ∷ []
+tickRefusals ms = 24 if tooLong ms ∷ []
 
 -- "It answers the seats closed by silence (cause 2001) and the seats due a report."
 abbrev pub silenceCause : ℕ
@@ -55,7 +58,7 @@ abbrev pub noSeats : SeatSets
 noSeats = record { closed = replicate 8 false; due = replicate 8 false }
 
 unfoldable pub tickSets : Bench → (ms : ℕ) → SeatSets
-tickSets b ms = cond (ltb 1000 ms) noSeats (record { closed = map (fallsSilent ms) (b .seats); due = map (isDue ms) (b .seats) })
+tickSets b ms = cond (tooLong ms) noSeats (record { closed = map (fallsSilent ms) (b .seats); due = map (isDue ms) (b .seats) })
 
 unfoldable pub tickedBench : Bench → (ms : ℕ) → Bench
 tickedBench b ms = withSeats b (map (tickedSeat ms) (b .seats))

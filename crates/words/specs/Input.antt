@@ -1,4 +1,4 @@
--- The words of a line. "Words are separated by blanks (space, tab, carriage return); `#` begins a comment"
+-- The words of a line. Blanks (space, tab, carriage return) stand between words; `#` begins a comment.
 use Prim.Native.Nat.{ℕ, zero, suc, _+_}
 use mathlib.Core.Path.{_≡_, refl}
 use mathlib.Core.Bool.{Bool, true, false, cond, not, _&&_, _||_}

@@ -1,4 +1,4 @@
--- Numbers in words. "A number too large for its parameter type is an `error:` line, never a wrong value."
+-- Numbers in words. A number too large for its type is answered as none, never as a wrong value.
 use Prim.Native.Nat.{ℕ, _+_, _*_, _-_}
 use mathlib.Core.Path.{_≡_, refl}
 use mathlib.Core.Bool.{Bool, true, cond, _&&_}
@@ -38,7 +38,7 @@ unfoldable pub numberFrom : (radix value : ℕ) → List ℕ → NumberRead
 numberFrom radix value w =
     cond (allDigits radix w && leb (valueFrom radix value w) 4294967295) (number.Is (valueFrom radix value w)) number.Not
 
--- "Numbers are decimal, bytes and extension types hex": radix 10 or 16. No word is no number.
+-- Numbers are decimal, bytes and extension types hexadecimal: radix 10 or 16. No word is no number.
 unfoldable pub numberIn : (radix : ℕ) → List ℕ → NumberRead
 numberIn radix [] = number.Not
 numberIn radix (b ∷ w) = numberFrom radix 0 (b ∷ w)

@@ -1,4 +1,4 @@
--- Bytes in words: "bytes and extension types hex, `-` is nothing".
+-- Bytes in words, in hexadecimal; `-` says no bytes.
 use Prim.Native.Nat.{ℕ, _+_, _*_, _/_, _%_}
 use mathlib.Core.Path.{_≡_, refl}
 use mathlib.Core.Bool.{Bool, cond, not, _&&_, _||_}
