@@ -7,7 +7,7 @@ use borrow.Author.Needs.{needs}
 use borrow.Author.Tests.{lt-ltb, le-ltb, le-leb, lt-leb, ne-eqb}
 use lib.Dec.{ltb}
 use lib.ListN.{set, replicate}
-use Rattle.seats.specs.Record.{seatOf}
+use Rattle.seats.specs.Record.{noSuchSeat, seatOf}
 use Rattle.air.specs.Air.{rank, keyed, takesPart, among}
 use Rattle.air.specs.Marks.{standing, seatsAt, firstAt, mark, markAll, markIf, marksOf, leadersAt, addedAt, marked, sends, sendsFrom, pttsShown}
 use Rattle.air.proofs.RankLaws.{codes}
@@ -47,17 +47,13 @@ module _ (healthy : Bool) (seats : List Seat) (n : ℕ) (s : Seat) (its : s ≡ 
   standing-none t = rw (← its, ← says, t)
 
 module _ (marks : List Bool) (n : ℕ) where
-  pub mark-zero : n ≡ 0 → marks ≡ mark marks n
+  pub mark-none : (s : Bool) → s ≡ noSuchSeat n → s ≡ true → marks ≡ mark marks n
   unfolding mark
-  mark-zero e = simp e
+  mark-none s e h = simp (← e, h)
 
-  pub mark-past : (n ≡ 0 → ⊥) → 8 < n → marks ≡ mark marks n
+  pub mark-seat : (s : Bool) → s ≡ noSuchSeat n → s ≡ false → set marks (n - 1) true ≡ mark marks n
   unfolding mark
-  mark-past z h = simp (ne-eqb _ _ z, lt-ltb _ _ h)
-
-  pub mark-seat : (n ≡ 0 → ⊥) → n ≤ 8 → set marks (n - 1) true ≡ mark marks n
-  unfolding mark
-  mark-seat z h = simp (ne-eqb _ _ z, le-ltb _ _ h)
+  mark-seat s e h = simp (← e, h)
 
   pub mark-if-so : (t : Bool) (r : List Bool) → t ≡ true → r ≡ mark marks n → r ≡ markIf t marks n
   mark-if-so t r h e = simp (h, e)
@@ -106,4 +102,4 @@ module _ (leads : List Bool) (coupling : Bool) (top : ℕ) (order ranks : List �
   unfolding addedAt markAll
   added-none c = simp c
 
-pub ruleset rules = (codes, keyed-muted, keyed-on, part-asked, part-closed, part-unhealthy, standing-ranked, standing-none, mark-zero, mark-past, mark-seat, mark-if-so, sends-on, sends-off, ptts-several, ptts-sent, leads-nobody, leads-all, leads-first, added-coupled, added-under, added-none, air-found, turns, needs)
+pub ruleset rules = (codes, keyed-muted, keyed-on, part-asked, part-closed, part-unhealthy, standing-ranked, standing-none, mark-none, mark-seat, mark-if-so, sends-on, sends-off, ptts-several, ptts-sent, leads-nobody, leads-all, leads-first, added-coupled, added-under, added-none, air-found, turns, needs)

@@ -3,15 +3,13 @@ ghost use mathlib.Core.Path.{_≡_};
 ghost use Prim.Native.Nat.{_≤_};
 ghost use mathlib.Core.Bool.{cond};
 ghost use Rattle.air.specs.Marks.{mark, markIf, smallestFrom, marked};
+use seats::record::no_such_seat;
 
 // One seat more; what is no seat's number leaves no mark.
 pub fn mark(marks: [bool; 8], n: u8) -> [bool; 8]
     ensures { λ r. ⌜ r ≡ mark marks n ⌝ }
 {
-    if n == 0 {
-        return marks;
-    }
-    if 8 < n {
+    if no_such_seat(n) {
         return marks;
     }
     let mut more = marks;

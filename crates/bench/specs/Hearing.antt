@@ -16,7 +16,7 @@ use Rattle.packet.specs.declared.message.SideItem.{SideItem}
 use Rattle.packet.specs.declared.message.SideItem.the-variants as side
 use Rattle.packet.specs.declared.message.Tx.{Tx}
 use Rattle.seats.specs.Record.{noSuchSeat, seatOf, lesson}
-use Rattle.seats.specs.Opening.{isTxRx, isCoupling, ownId}
+use Rattle.seats.specs.Opening.{isTxRx, mayKey, ownId}
 use Rattle.air.specs.Air.{benchAir}
 use Rattle.air.specs.Order.{orderAfter}
 use Rattle.seats.specs.declared.record.Setup.{Setup}
@@ -67,7 +67,7 @@ pttOn m = not (eqb (m .ptt) off)
 
 unfoldable pub keyingBarred : (isLesson : Bool) (call : ℕ) → Tx → Bool
 keyingBarred isLesson call m =
-    (pttOn m && not (isTxRx call || isCoupling call)) || (eqb (m .ptt) coupling && isTxRx call) || (isLesson && pttOn m && not (eqb (m .ptt) test))
+    (pttOn m && not (mayKey call)) || (eqb (m .ptt) coupling && isTxRx call) || (isLesson && pttOn m && not (eqb (m .ptt) test))
 
 -- "22 | ptt-id not the seat's own; with PTT off 0 also passes"
 unfoldable pub idAllowed : (own : ℕ) → Tx → Bool

@@ -9,6 +9,7 @@ use base::other_ssrc;
 use packet::Refusal;
 use packet::Tx;
 use packet::refusal::Verdict;
+use seats::opening::may_key;
 use seats::opening::own_id;
 use seats::record::Seat;
 use seats::record::Setup;
@@ -43,8 +44,7 @@ fn keying_barred(lesson: bool, call: u8, m: Tx) -> bool
     ensures { λ r. ⌜ r ≡ keyingBarred lesson call m ⌝ }
 {
     let on = m.ptt != 0;
-    let keys = (call == 2) | (call == 3);
-    (on & !keys) | ((m.ptt == 2) & (call == 2)) | (lesson & on & (m.ptt != 5))
+    (on & !may_key(call)) | ((m.ptt == 2) & (call == 2)) | (lesson & on & (m.ptt != 5))
 }
 
 // 22: the seat's own ptt-id, or 0 with PTT off.

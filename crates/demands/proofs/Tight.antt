@@ -91,6 +91,7 @@ tight-seats = record {
   open-seat = λ k a r s d e p q. opened-once (told open-tells (p .0) (q .0)) (meet (p .1) (q .1));
   close = λ k a r s d e p q. done-once (told done-tells (p .0) (q .0)) (meet (p .1) (q .1));
   seat-verdict = λ k a r s d e. told verdict-tells;
+  may-key = λ k a r s d e. meet;
   own-id = λ k a r s d e. meet;
   received = λ k a r s d e. meet;
   transmitter = λ k a r s d e. meet;

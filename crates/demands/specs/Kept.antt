@@ -9,7 +9,7 @@ use lib.ListN.{length, getD}
 use Rattle.base.specs.Bytes.{Bytes, bit}
 use Rattle.packet.specs.Packet.{off, coupling, test}
 use Rattle.seats.specs.Record.{seatNumbers, nothingHeard, closedSeat, freshBench, seatOf, lesson}
-use Rattle.seats.specs.Opening.{isTxRx, isCoupling, shortest, longest, fewest, most, holdsCoupling, ownId}
+use Rattle.seats.specs.Opening.{mayKey, isCoupling, shortest, longest, fewest, most, holdsCoupling, ownId}
 use Rattle.bench.specs.Step.{Call, opening, closing, packet, tick, report, received, transmitter, side, step, after}
 use Rattle.seats.specs.declared.record.Setup.{Setup}
 use Rattle.seats.specs.declared.record.Field.{Field}
@@ -21,7 +21,7 @@ pub record FieldKept (isLesson pair : Bool) (call own : ℕ) (f : Field) : Type 
   -- "6 and 7 are reserved and refused"
   pub type-known : f .ptt ≤ test
   -- not "PTT on for Idle or Rxonly; Coupling PTT for TxRx; lesson seat with PTT on other than Test"
-  pub may-key : eqb (f .ptt) off ≡ false → isTxRx call || isCoupling call ≡ true
+  pub may-key : eqb (f .ptt) off ≡ false → mayKey call ≡ true
   pub coupling-keys : f .ptt ≡ coupling → isCoupling call ≡ true
   pub lesson-only-tests : isLesson ≡ true → eqb (f .ptt) off || eqb (f .ptt) test ≡ true
   -- not "ptt-id not the seat's own; with PTT off 0 also passes"

@@ -67,6 +67,7 @@ pub record TightSeats : Type 1 where
   pub open-seat : OneResult seats.«open».Reads.Learnt
   pub close : OneResult seats.close.Reads.Learnt
   pub seat-verdict : OneResult seats.opening.seat_verdict.Reads.Learnt
+  pub may-key : OneResult seats.opening.may_key.Reads.Learnt
   pub own-id : OneResult seats.opening.own_id.Reads.Learnt
   pub received : OneResult seats.received.Reads.Learnt
   pub transmitter : OneResult seats.transmitter.Reads.Learnt
@@ -111,7 +112,7 @@ pub record TightShow : Type 1 where
   pub answer-line : OneResultAndBuffer show.answer_line.Reads.Learnt (λ k e. e .0)
   pub decode : OneResultAndBuffer show.decode.Reads.Learnt (λ k e. e .0)
 
--- All 67.
+-- All 68.
 pub record Tight : Type 1 where
   pub base : TightBase
   pub packet : TightPacket

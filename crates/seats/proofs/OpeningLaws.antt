@@ -1,7 +1,7 @@
 -- The cases of opening and closing a seat, as the answers of the code ask for them.
 use Prim.Native.Nat.{ℕ, _+_, _<_, _≤_}
 use mathlib.Core.Path.{_≡_, refl, ap, sym, _∙_}
-use mathlib.Core.Bool.{Bool, true, false, not, _&&_, _||_}
+use mathlib.Core.Bool.{Bool, true, false, not, _&&_}
 use mathlib.Core.List.{List}
 use lib.Dec.{eqb}
 use lib.ListN.{length, drop, getD}
@@ -12,7 +12,7 @@ use Rattle.packet.specs.declared.refusal.Refusal.{Refusal}
 use Rattle.packet.specs.declared.refusal.Verdict.{Verdict}
 use Rattle.packet.specs.declared.refusal.Verdict.the-variants as verdict
 use Rattle.seats.specs.Record.{noSuchSeat, seatOf, lesson, closedSeat, settled}
-use Rattle.seats.specs.Opening.{callCode, isTxRx, isCoupling, asksCoupling, timesAllowed, holdsCoupling, anyCoupling, ownId, openRefusals, openSaid, openedBench, closeRefusals, seatVerdict, closeSaid, closedBench}
+use Rattle.seats.specs.Opening.{callCode, mayKey, asksCoupling, timesAllowed, holdsCoupling, anyCoupling, ownId, openRefusals, openSaid, openedBench, closeRefusals, seatVerdict, closeSaid, closedBench}
 use Rattle.seats.specs.Answers.{openAnswer}
 use Rattle.seats.specs.declared.record.Seat.{Seat}
 use Rattle.seats.specs.declared.record.Bench.{Bench}
@@ -28,11 +28,11 @@ pub asks-by : (r : Request) (code : ℕ) → code ≡ callCode (r .call) → eqb
 asks-by r code e = rw e
 
 module _ (n call : ℕ) where
-  pub own-number : isTxRx call || isCoupling call ≡ true → n ≡ ownId n call
-  own-number e = simp e
+  pub own-number : (t : Bool) → t ≡ mayKey call → t ≡ true → n ≡ ownId n call
+  own-number t e h = simp (← e, h)
 
-  pub own-none : isTxRx call || isCoupling call ≡ false → 0 ≡ ownId n call
-  own-none e = simp e
+  pub own-none : (t : Bool) → t ≡ mayKey call → t ≡ false → 0 ≡ ownId n call
+  own-none t e h = simp (← e, h)
 
 -- ---- a seat that is Coupling, looked for among those not passed yet; t is what the test of one seat gave
 

@@ -25,6 +25,10 @@ isTxRx call = eqb call 2
 abbrev pub isCoupling : (call : ℕ) → Bool
 isCoupling call = eqb call 3
 
+-- the call types that have a ptt-id and may key
+abbrev pub mayKey : (call : ℕ) → Bool
+mayKey call = isTxRx call || isCoupling call
+
 abbrev pub asksCoupling : Request → Bool
 asksCoupling r = isCoupling (callCode (r .call))
 
@@ -64,7 +68,7 @@ openRefusals setup n seats r =
 
 -- "The answer is its own ptt-id: the seat number for TxRx and Coupling, else 0."
 abbrev pub ownId : (n call : ℕ) → ℕ
-ownId n call = cond (isTxRx call || isCoupling call) n 0
+ownId n call = cond (mayKey call) n 0
 
 unfoldable pub openSaid : Bench → (n : ℕ) → Request → Answer ℕ
 openSaid b n r = judged (openRefusals (b .setup) n (b .seats) r) (ownId n (callCode (r .call)))

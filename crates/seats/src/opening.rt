@@ -3,7 +3,7 @@ ghost use mathlib.Core.Path.{_≡_};
 ghost use mathlib.Core.Bool.{false};
 ghost use Rattle.packet.specs.Refusals.{verdictOf};
 ghost use Rattle.seats.specs.Record.{noSuchSeat, settled};
-ghost use Rattle.seats.specs.Opening.{callCode, asksCoupling, timesAllowed, holdsCoupling, anyCoupling, ownId, openSaid, openedBench, seatVerdict, closeSaid, closedBench};
+ghost use Rattle.seats.specs.Opening.{callCode, mayKey, asksCoupling, timesAllowed, holdsCoupling, anyCoupling, ownId, openSaid, openedBench, seatVerdict, closeSaid, closedBench};
 ghost use Rattle.seats.specs.Answers.{openAnswer, doneAnswer};
 use crate::answer::Done;
 use crate::answer::DoneAnswer;
@@ -150,11 +150,18 @@ fn call_code(call: CallType) -> u8
     }
 }
 
+// The call types that have a ptt-id and may key.
+pub fn may_key(call: u8) -> bool
+    ensures { λ r. ⌜ r ≡ mayKey call ⌝ }
+{
+    (call == 2) | (call == 3)
+}
+
 // The ptt-id of a seat: its number for TxRx and Coupling, else 0.
 pub fn own_id(n: u8, call: u8) -> u8
     ensures { λ r. ⌜ r ≡ ownId n call ⌝ }
 {
-    if (call == 2) | (call == 3) { n } else { 0 }
+    if may_key(call) { n } else { 0 }
 }
 
 fn times_allowed(r: Request) -> bool
