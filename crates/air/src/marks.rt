@@ -38,6 +38,7 @@ pub fn smallest(marks: [bool; 8]) -> u8
     0
 }
 
+// As `bit` of base, with the bound by which the sum below stays small.
 fn one_if(test: bool) -> u8
     ensures is { λ r. ⌜ r ≡ cond test 1 0 ⌝ }
     ensures small { λ r. ⌜ r ≤ 1 ⌝ }

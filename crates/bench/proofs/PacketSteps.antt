@@ -19,8 +19,8 @@ use Rattle.packet.proofs.Judged.{judged-mapped, by-verdict, meets-none, judged-
 use Rattle.packet.proofs.Passed.{Passed, passed, length-most}
 use Rattle.seats.specs.Record.{seatOf, settled}
 use Rattle.seats.specs.Opening.{closeRefusals, seatVerdict}
-use Rattle.bench.specs.Hearing.{messageIn, messageRefusals, packetRefusals, packetSaid, heardBench, hearing, isSent, audioIn, audioAt}
-use Rattle.bench.specs.Steps.{Whole, messageVerdict, hearingOf, messageSaid}
+use Rattle.bench.specs.Hearing.{messageIn, messageRefusals, packetRefusals, packetSaid, heardBench, hearing, isSent, audioIn, audioAt, isOnAir, hearingOf}
+use Rattle.bench.specs.Steps.{Whole, messageVerdict, messageSaid}
 use Rattle.bench.specs.Answers.{packetAnswer}
 use Rattle.seats.specs.declared.record.Bench.{Bench}
 use Rattle.bench.specs.declared.hearing.Hearing.{Hearing}
@@ -60,7 +60,7 @@ module _ (ext : ℕ) (p : List ℕ) where
 
 module _ (b : Bench) (n : ℕ) (p : List ℕ) where
   in-steps : packetSaid b n p ≡ andThen (andThen (seatVerdict n (b .seats)) (mapped passes (readTx (b .setup .ext) p))) (messageSaid b n (messageIn p) p)
-  unfolding packetSaid packetRefusals seatVerdict closeRefusals messageSaid hearing hearingOf isSent
+  unfolding packetSaid packetRefusals seatVerdict closeRefusals messageSaid hearing isSent
   in-steps =
       judged-split (closeRefusals n (b .seats) ++ readers (b .setup .ext) p) (messageRefusals (b .setup) n (seatOf (b .seats) n) (messageIn p)) (hearing b n p)
       ∙ ap (λ (v : Answer (Unit {0})). andThen v (messageSaid b n (messageIn p) p))
@@ -78,7 +78,7 @@ module _ (b : Bench) (n : ℕ) (p : List ℕ) where
       said-by-message f = in-steps ∙ simp (← e, fine, ← k, f, read-said (b .setup .ext) p f k)
 
   abbrev told : Tx → Hearing
-  told m = hearingOf (seatOf (b .seats) n) (heardBench b n m) n m p
+  told m = hearingOf (seatOf (b .seats) n) (heardBench b n m) (isOnAir (heardBench b n m) n) m p
 
   decided : (m : Tx) → messageSaid b n m p ≡ mapped (λ (u : Unit {0}). told m) (messageVerdict (b .setup) n (seatOf (b .seats) n) m)
   unfolding messageVerdict messageSaid

@@ -139,21 +139,27 @@ sameField old new =
     && Bool·beq (old .delayed) (new .delayed) && eqb (old .delay) (new .delay)
     && Bool·beq (old .sided) (new .sided) && Bool·beq (old .standby) (new .standby)
 
+abbrev pub isOnAir : Bench → (n : ℕ) → Bool
+isOnAir b n = getD (benchAir b .on) (n - 1) false
+
 -- "An accepted audio packet's payload is sent, to the side in use, exactly if its seat is on the air after it."
 unfoldable pub isSent : Bench → (n : ℕ) → Tx → Bool
-isSent b n m = getD (benchAir (heardBench b n m) .on) (n - 1) false
+isSent b n m = isOnAir (heardBench b n m) n
 
 -- "Accepted, it answers: packets missing before it, whether to reply now, the side in use after it, and the audio to send"
 -- (where the audio lies in the packet: its payload, empty for R2S, if the seat is on the air after it; else nothing at place 0)
-unfoldable pub hearing : Bench → (n : ℕ) → List ℕ → Hearing
-hearing b n p =
+abbrev pub hearingOf : (before : Seat) (after : Bench) (sent : Bool) → Tx → List ℕ → Hearing
+hearingOf before after sent m p =
     record {
-      missing = missing (seatOf (b .seats) n .heard .any) (seatOf (b .seats) n .heard .sequence) (messageIn p .sequence);
-      reply = not (sameField (seatOf (b .seats) n .heard .field) (fieldHeard (messageIn p)));
-      standby = heardBench b n (messageIn p) .standby;
-      at = cond (isSent b n (messageIn p)) (payloadAt p) 0;
-      length = cond (isSent b n (messageIn p)) (length (payload p)) 0;
+      missing = missing (before .heard .any) (before .heard .sequence) (m .sequence);
+      reply = not (sameField (before .heard .field) (fieldHeard m));
+      standby = after .standby;
+      at = cond sent (payloadAt p) 0;
+      length = cond sent (length (payload p)) 0;
     }
+
+unfoldable pub hearing : Bench → (n : ℕ) → List ℕ → Hearing
+hearing b n p = hearingOf (seatOf (b .seats) n) (heardBench b n (messageIn p)) (isSent b n (messageIn p)) (messageIn p) p
 
 unfoldable pub packetSaid : Bench → (n : ℕ) → List ℕ → Answer Hearing
 packetSaid b n p = judged (packetRefusals (b .setup) n (b .seats) p) (hearing b n p)

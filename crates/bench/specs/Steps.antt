@@ -1,17 +1,14 @@
 -- What the private steps of the packet's call and of the report's answer: pieces of the definitions in Hearing.antt and
 -- Reporting.antt, cited by their promises alone.
-use Prim.Native.Nat.{ℕ, _-_, _≤_}
-use mathlib.Core.Bool.{false, cond, not}
+use Prim.Native.Nat.{ℕ, _≤_}
 use mathlib.Core.List.{List, [], _∷_, _++_}
-use lib.ListN.{length, getD}
-use Rattle.base.specs.Order.{missing}
-use Rattle.packet.specs.Packet.{payload, payloadAt}
+use lib.ListN.{length}
+use Rattle.packet.specs.Packet.{payloadAt}
 use Rattle.packet.specs.Refusals.{_if_, Answer, judged}
 use Rattle.packet.specs.declared.message.Tx.{Tx}
 use Rattle.seats.specs.Record.{seatOf}
 use Rattle.seats.specs.Opening.{closeRefusals}
-use Rattle.air.specs.Air.{benchAir}
-use Rattle.bench.specs.Hearing.{fieldHeard, messageRefusals, heardBench, sameField}
+use Rattle.bench.specs.Hearing.{messageRefusals, heardBench, isOnAir, hearingOf}
 use Rattle.bench.specs.Reporting.{audioBarred}
 use Rattle.seats.specs.declared.record.Setup.{Setup}
 use Rattle.seats.specs.declared.record.Seat.{Seat}
@@ -27,20 +24,10 @@ pub record Whole (p : List ℕ) : Type 0 where
 unfoldable pub messageVerdict : Setup → (n : ℕ) → Seat → Tx → Answer (Unit {0})
 messageVerdict setup n s m = judged (messageRefusals setup n s m) tt
 
--- what an accepted message answers, from the seat before it and the bench after it
-unfoldable pub hearingOf : Seat → (after : Bench) → (n : ℕ) → Tx → List ℕ → Hearing
-hearingOf s after n m p =
-    record {
-      missing = missing (s .heard .any) (s .heard .sequence) (m .sequence);
-      reply = not (sameField (s .heard .field) (fieldHeard m));
-      standby = after .standby;
-      at = cond (getD (benchAir after .on) (n - 1) false) (payloadAt p) 0;
-      length = cond (getD (benchAir after .on) (n - 1) false) (length (payload p)) 0;
-    }
-
+-- what a message that was read answers
 unfoldable pub messageSaid : Bench → (n : ℕ) → Tx → List ℕ → Answer Hearing
 messageSaid b n m p =
-    judged (messageRefusals (b .setup) n (seatOf (b .seats) n) m) (hearingOf (seatOf (b .seats) n) (heardBench b n m) n m p)
+    judged (messageRefusals (b .setup) n (seatOf (b .seats) n) m) (hearingOf (seatOf (b .seats) n) (heardBench b n m) (isOnAir (heardBench b n m) n) m p)
 
 -- 13, 14 and 25, of a report
 unfoldable pub reportVerdict : (n : ℕ) → List Seat → (signals length : ℕ) → Answer (Unit {0})

@@ -5,9 +5,9 @@ ghost use lib.ListN.{length};
 ghost use Rattle.base.specs.Bytes.{LiesAt};
 ghost use Rattle.packet.specs.Packet.{payload, payloadAt};
 ghost use Rattle.seats.specs.Record.{noSuchSeat, settled};
-ghost use Rattle.bench.specs.Hearing.{messageIn, heardBench, packetSaid, audioIn, audioAt};
+ghost use Rattle.bench.specs.Hearing.{messageIn, heardBench, isOnAir, hearingOf, packetSaid, audioIn, audioAt};
 ghost use Rattle.bench.specs.Answers.{packetAnswer};
-ghost use Rattle.bench.specs.Steps.{Whole, hearingOf, messageSaid};
+ghost use Rattle.bench.specs.Steps.{Whole, messageSaid};
 use crate::admission::message_verdict;
 use crate::memory::field_heard;
 use crate::memory::heard_bench;
@@ -121,7 +121,7 @@ fn with_message(b: Bench, n: u8, m: Tx, p: &[u8]) -> Packeted
 // What an accepted message answers, from the seat before it and the bench after it.
 fn hearing_of(s: Seat, after: Bench, n: u8, m: Tx, p: &[u8]) -> Hearing
     requires { ⌜ (noSuchSeat n ≡ false) × Whole (now p) ⌝ }
-    ensures { λ r. ⌜ r ≡ hearingOf s after n m (now (p .entry)) ⌝ }
+    ensures { λ r. ⌜ r ≡ hearingOf s after (isOnAir after n) m (now (p .entry)) ⌝ }
 {
     let heard = s.heard;
     let old = heard.field;

@@ -1,4 +1,3 @@
-use Rattle.bench.specs.Steps.{hearingOf}
 use Rattle.seats.proofs.RecordLaws.{recordCases}
 use borrow.Author.Needs.{needs}
 use Rattle.bench.proofs.hearing.hearing_of.Statement.{statement}
@@ -32,7 +31,6 @@ sent-length-requires : tie.Need-sent-length-requires
 sent-length-requires c κs = search needs
 
 returns : tie.Need-returns
-unfolding hearingOf
 returns c =
     simp (
       c .sent-length .ensures,
