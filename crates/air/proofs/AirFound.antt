@@ -7,12 +7,12 @@ use native.Mathlib.Omega.{arith}
 use borrow.Author.Tests.{eqb-true, eqb-false}
 use lib.Dec.{eqb}
 use Rattle.base.proofs.Truths.{either-way}
-use Rattle.seats.specs.Record.{seatOf}
+use Rattle.record.specs.Record.{seatOf}
 use Rattle.air.specs.Air.{typeOf, keyings, topRank, atRank, leaders, added, onAir, smallest, howMany, anySends, airOf, benchAir}
 use Rattle.air.specs.Marks.{standing, highest, seatsAt, markAll, marksOf, leadersAt, addedAt, smallestFrom, marked, sendsFrom, pttsShown}
 use Rattle.air.proofs.Marking.{mark-list}
 use Rattle.air.proofs.Places.{highest-is-top, seats-at-rank, nobody-at-zero}
-use Rattle.seats.specs.declared.record.Bench.{Bench}
+use Rattle.record.specs.declared.bench.Bench.{Bench}
 
 module _ (b : Bench) (ranks : List ℕ) (top : ℕ) (placed : ranks ≡ map (standing (b .healthy) (b .seats)) (b .order)) (found : top ≡ highest ranks) where
   top-found : top ≡ topRank (keyings b)
@@ -27,21 +27,21 @@ module _ (b : Bench) (ranks : List ℕ) (top : ℕ) (placed : ranks ≡ map (sta
   unfolding keyings
   nobody = nobody-at-zero (b .healthy) (b .seats) (b .order)
 
-  leaders-found : leadersAt (b .setup .summation) top (b .order) ranks ≡ leaders (b .setup) (keyings b)
+  leaders-found : leadersAt (b .setup .«equal_summation») top (b .order) ranks ≡ leaders (b .setup) (keyings b)
   unfolding leadersAt leaders
   leaders-found = by-top (eqb top 0) refl
     where
-      by-top : (t : Bool) → eqb top 0 ≡ t → leadersAt (b .setup .summation) top (b .order) ranks ≡ leaders (b .setup) (keyings b)
-      by-top true e = rw (e, ← top-found, eqb-true top 0 e, nobody) (sym (either-way (b .setup .summation) []))
+      by-top : (t : Bool) → eqb top 0 ≡ t → leadersAt (b .setup .«equal_summation») top (b .order) ranks ≡ leaders (b .setup) (keyings b)
+      by-top true e = rw (e, ← top-found, eqb-true top 0 e, nobody) (sym (either-way (b .setup .«equal_summation») []))
       by-top false e = rw (e, at-found top (eqb-false top 0 e), top-found)
 
-  added-found : addedAt (b .setup .coupling) top (b .order) ranks ≡ added (b .setup) (keyings b)
+  added-found : addedAt (b .setup .«coupling_summation») top (b .order) ranks ≡ added (b .setup) (keyings b)
   unfolding addedAt added
   added-found = rw (at-found 2 (λ e. omega arith), top-found)
 
   pub air-found : (leads on : List Bool) (id ptt : ℕ) (ptts : Bool)
-      → leads ≡ marksOf (leadersAt (b .setup .summation) top (b .order) ranks)
-      → on ≡ markAll leads (addedAt (b .setup .coupling) top (b .order) ranks)
+      → leads ≡ marksOf (leadersAt (b .setup .«equal_summation») top (b .order) ranks)
+      → on ≡ markAll leads (addedAt (b .setup .«coupling_summation») top (b .order) ranks)
       → id ≡ smallestFrom 1 leads → ptt ≡ typeOf top → ptts ≡ pttsShown (b .seats) on
       → record { on = on; leads = leads; id = id; ptt = ptt; ptts = ptts } ≡ benchAir b
   unfolding seatOf benchAir airOf onAir smallestFrom smallest pttsShown marked howMany sendsFrom anySends

@@ -7,15 +7,15 @@ use borrow.Author.Needs.{needs}
 use borrow.Author.Tests.{lt-ltb, le-ltb, le-leb, lt-leb, ne-eqb}
 use lib.Dec.{ltb}
 use lib.ListN.{set, replicate}
-use Rattle.seats.specs.Record.{noSuchSeat, seatOf}
+use Rattle.record.specs.Record.{noSuchSeat, seatOf}
 use Rattle.air.specs.Air.{rank, keyed, takesPart, among}
 use Rattle.air.specs.Marks.{standing, seatsAt, firstAt, mark, markAll, markIf, marksOf, leadersAt, addedAt, marked, sends, sendsFrom, pttsShown}
 use Rattle.air.proofs.RankLaws.{codes}
 use Rattle.air.proofs.Turns.{turns}
 use Rattle.air.proofs.Marking.{mark-list, mark-first}
 use Rattle.air.proofs.AirFound.{air-found}
-use Rattle.seats.specs.declared.record.Field.{Field}
-use Rattle.seats.specs.declared.record.Seat.{Seat}
+use Rattle.record.specs.declared.seat.Field.{Field}
+use Rattle.record.specs.declared.seat.Seat.{Seat}
 
 module _ (f : Field) where
   pub keyed-muted : f .pm ≡ true → false ≡ keyed f

@@ -6,10 +6,10 @@ use mathlib.Core.List.{List, [], _∷_, map}
 use native.Mathlib.Omega.{arith}
 use borrow.Author.Tests.{ne-eqb, ltb-true}
 use lib.Dec.{eqb, ltb}
-use Rattle.seats.specs.Record.{seatOf}
+use Rattle.record.specs.Record.{seatOf}
 use Rattle.air.specs.Air.{rank, takesPart, keyingsOf, keyingOf, topRank, atRank}
 use Rattle.air.specs.Marks.{standing, highest, seatsAt}
-use Rattle.seats.specs.declared.record.Seat.{Seat}
+use Rattle.record.specs.declared.seat.Seat.{Seat}
 
 module _ (healthy : Bool) (seats : List Seat) where
   pub highest-is-top : (order : List ℕ) → highest (map (standing healthy seats) order) ≡ topRank (keyingsOf healthy seats order)

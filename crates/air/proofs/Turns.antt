@@ -8,9 +8,9 @@ use borrow.Author.Tests.{eq-eqb, ne-eqb}
 use lib.Dec.{eqb}
 use lib.ListN.{length, getD, drop}
 use Rattle.base.proofs.Loops.{left-more, left-done, fill-more, fill-done}
-use Rattle.seats.specs.Record.{closedSeat}
+use Rattle.record.specs.Record.{closedSeat}
 use Rattle.air.specs.Marks.{highest, seatsAt, firstAt, markAll, markIf, smallestFrom, marked, sends, sendsFrom}
-use Rattle.seats.specs.declared.record.Seat.{Seat}
+use Rattle.record.specs.declared.seat.Seat.{Seat}
 
 module _ (ranks : List ℕ) (i top : ℕ) (eight : length ranks ≡ 8) where
   pub highest-more : (r : ℕ) → i < 8 → r ≡ max top (getD ranks i 0) → max top (highest (drop i ranks)) ≡ highest ranks

@@ -4,12 +4,12 @@ use mathlib.Core.Bool.{Bool, false, cond, not, _&&_, _||_}
 use mathlib.Core.List.{List, [], _∷_, _++_, map}
 use lib.Dec.{ltb, leb, eqb}
 use Rattle.packet.specs.Packet.{off, normal, coupling, priority, emergency, test}
-use Rattle.seats.specs.Record.{seatNumbers, seatOf}
-use Rattle.seats.specs.declared.record.Setup.{Setup}
-use Rattle.seats.specs.declared.record.Field.{Field}
-use Rattle.seats.specs.declared.record.Seat.{Seat}
-use Rattle.seats.specs.declared.record.Bench.{Bench}
-use Rattle.air.specs.declared.air.Air.{Air}
+use Rattle.record.specs.Record.{seatNumbers, seatOf}
+use Rattle.record.specs.declared.setup.Setup.{Setup}
+use Rattle.record.specs.declared.seat.Field.{Field}
+use Rattle.record.specs.declared.seat.Seat.{Seat}
+use Rattle.record.specs.declared.bench.Bench.{Bench}
+use Rattle.record.specs.declared.air.Air.{Air}
 
 -- "Rank: Test, Coupling, Normal, Priority, Emergency, lowest first." 0 for off and for the reserved codes.
 abbrev pub rank : (ptt : ℕ) → ℕ
@@ -64,11 +64,11 @@ theFirst (n ∷ ns) = n ∷ []
 
 -- ".. lockout puts on the air the seat whose present keying began first; summation, all of them."
 unfoldable pub leaders : Setup → List Keying → List ℕ
-leaders setup ks = cond (setup .summation) (atRank (topRank ks) ks) (theFirst (atRank (topRank ks) ks))
+leaders setup ks = cond (setup .«equal_summation») (atRank (topRank ks) ks) (theFirst (atRank (topRank ks) ks))
 
 -- "With coupling summation a participant keyed Coupling is added when the top rank is above Coupling."
 unfoldable pub added : Setup → List Keying → List ℕ
-added setup ks = cond (setup .coupling && ltb couplingRank (topRank ks)) (atRank couplingRank ks) []
+added setup ks = cond (setup .«coupling_summation» && ltb couplingRank (topRank ks)) (atRank couplingRank ks) []
 
 unfoldable pub onAir : Setup → List Keying → List ℕ
 onAir setup ks = leaders setup ks ++ added setup ks

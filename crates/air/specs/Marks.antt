@@ -5,9 +5,9 @@ use mathlib.Core.Bool.{Bool, true, false, cond, _&&_, _||_}
 use mathlib.Core.List.{List, [], _∷_, map, foldl}
 use lib.Dec.{eqb, ltb, leb}
 use lib.ListN.{getD, set}
-use Rattle.seats.specs.Record.{seatNumbers, noSuchSeat, closedSeat, seatOf}
+use Rattle.record.specs.Record.{seatNumbers, noSuchSeat, closedSeat, seatOf}
 use Rattle.air.specs.Air.{rank, couplingRank, takesPart, theFirst, among}
-use Rattle.seats.specs.declared.record.Seat.{Seat}
+use Rattle.record.specs.declared.seat.Seat.{Seat}
 
 -- The rank at which the seat of a number takes part, 0 if it takes none.
 unfoldable pub standing : (healthy : Bool) → List Seat → (n : ℕ) → ℕ

@@ -8,23 +8,11 @@ use crate::marks::mark;
 use crate::marks::mark_if;
 use crate::marks::marked;
 use crate::marks::smallest;
-use seats::record::Bench;
-use seats::record::Field;
-use seats::record::Seat;
-use seats::record::seat_of;
-
-// What is shown of the air. Seat n has place n - 1.
-#[repr(C)]
-pub struct Air {
-    pub on: [bool; 8],
-    // on the air at the top rank
-    pub leads: [bool; 8],
-    // the smallest seat that leads, 0 if none does
-    pub id: u8,
-    // the top type, 0 for off
-    pub ptt: u8,
-    pub ptts: bool,
-}
+use record::Air;
+use record::Bench;
+use record::Field;
+use record::Seat;
+use record::seat_of;
 
 const COUPLING_RANK: u8 = 2;
 
@@ -210,8 +198,8 @@ pub fn bench_air(b: Bench) -> Air
     let order = b.order;
     let ranks = ranks(b.healthy, seats, order);
     let top = highest(ranks);
-    let leads = leading(setup.summation, top, order, ranks);
-    let on = with_added(leads, setup.coupling, top, order, ranks);
+    let leads = leading(setup.equal_summation, top, order, ranks);
+    let on = with_added(leads, setup.coupling_summation, top, order, ranks);
     Air {
         on,
         leads,

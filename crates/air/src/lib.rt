@@ -5,6 +5,5 @@ pub mod air;
 mod marks;
 pub mod order;
 
-pub use air::Air;
 pub use air::bench_air;
 pub use order::order_after;

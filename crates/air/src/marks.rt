@@ -3,7 +3,7 @@ ghost use mathlib.Core.Path.{_≡_};
 ghost use Prim.Native.Nat.{_≤_};
 ghost use mathlib.Core.Bool.{cond};
 ghost use Rattle.air.specs.Marks.{mark, markIf, smallestFrom, marked};
-use seats::record::no_such_seat;
+use record::no_such_seat;
 
 // One seat more; what is no seat's number leaves no mark.
 pub fn mark(marks: [bool; 8], n: u8) -> [bool; 8]

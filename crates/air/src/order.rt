@@ -4,7 +4,7 @@ ghost use Prim.Native.Nat.{_<_};
 ghost use Rattle.air.specs.Order.{begins, toLast, orderAfter};
 ghost use Rattle.air.specs.Carrying.{carried};
 use crate::air::keyed;
-use seats::record::Field;
+use record::Field;
 
 // n at place i changes places with what stands behind it.
 fn carry(order: [u8; 8], i: usize, n: u8) -> [u8; 8]

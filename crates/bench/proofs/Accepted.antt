@@ -8,17 +8,17 @@ use borrow.Author.Tests.{ltb-false, not-false}
 use Rattle.base.specs.Order.{otherSsrc, late}
 use Rattle.packet.specs.Packet.{field}
 use Rattle.packet.specs.Refusals.{NoCase}
-use Rattle.packet.specs.Reading.{readerRefusals, messageOf, messageWith}
+use Rattle.reader.specs.Reading.{readerRefusals, messageOf, messageWith}
 use Rattle.packet.specs.declared.message.Direction.the-variants as direction
 use Rattle.packet.proofs.Judged.{none-of-both}
-use Rattle.packet.proofs.Passed.{Passed, passed, field-passed}
-use Rattle.seats.specs.Record.{noSuchSeat, seatOf, lesson}
+use Rattle.reader.proofs.Passed.{Passed, passed, field-passed}
+use Rattle.record.specs.Record.{noSuchSeat, seatOf, lesson}
 use Rattle.seats.specs.Opening.{ownId}
 use Rattle.bench.specs.Hearing.{keyingBarred, idAllowed, sideBarred, messageIn, messageRefusals, packetRefusals}
 use Rattle.bench.specs.Reporting.{audioBarred, reportBytes, reportRefusals}
-use Rattle.seats.specs.declared.record.Setup.{Setup}
-use Rattle.seats.specs.declared.record.Seat.{Seat}
-use Rattle.seats.specs.declared.record.Bench.{Bench}
+use Rattle.record.specs.declared.setup.Setup.{Setup}
+use Rattle.record.specs.declared.seat.Seat.{Seat}
+use Rattle.record.specs.declared.bench.Bench.{Bench}
 
 pub record PacketAccepted (setup : Setup) (n : ℕ) (seats : List Seat) (p : List ℕ) : Type 0 where
   pub is-seat : noSuchSeat n ≡ false

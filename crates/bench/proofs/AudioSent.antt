@@ -12,9 +12,9 @@ use Rattle.base.specs.Bytes.{partOf}
 use Rattle.packet.specs.Packet.{payload, payloadAt}
 use Rattle.packet.specs.Refusals.{NoCase, accepted}
 use Rattle.packet.proofs.Judged.{meets-none}
-use Rattle.packet.proofs.Passed.{payload-length}
+use Rattle.reader.proofs.Passed.{payload-length}
 use Rattle.bench.specs.Hearing.{messageIn, packetRefusals, packetSaid, hearing, isSent, audioIn}
-use Rattle.seats.specs.declared.record.Bench.{Bench}
+use Rattle.record.specs.declared.bench.Bench.{Bench}
 use Rattle.bench.specs.declared.hearing.Hearing.{Hearing}
 use Rattle.bench.proofs.Accepted.{packet-accepted}
 

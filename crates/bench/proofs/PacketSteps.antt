@@ -7,22 +7,22 @@ use borrow.Author.Tests.{le-leb, lt-leb}
 use lib.ListN.{length}
 use Rattle.base.specs.Bytes.{partOf}
 use Rattle.packet.specs.Refusals.{Case, NoCase, Answer, accepted, refusal, verdictOf, judged, mapped, andThen}
-use Rattle.packet.specs.Reading.{readerRefusals, messageOf, asTx, read, readTx, txAnswer}
+use Rattle.reader.specs.Reading.{readerRefusals, messageOf, asTx, read, readTx, txAnswer}
 use Rattle.packet.specs.declared.message.Direction.the-variants as direction
 use Rattle.packet.specs.declared.message.Tx.{Tx}
 use Rattle.packet.specs.declared.refusal.Refusal.{Refusal}
 use Rattle.packet.specs.declared.refusal.Verdict.{Verdict}
 use Rattle.packet.specs.declared.refusal.Verdict.the-variants.{Fine, Refused}
-use Rattle.packet.specs.declared.reader.TxRead.{TxRead}
-use Rattle.packet.specs.declared.reader.TxRead.the-variants as tx
+use Rattle.reader.specs.declared.reading.TxRead.{TxRead}
+use Rattle.reader.specs.declared.reading.TxRead.the-variants as tx
 use Rattle.packet.proofs.Judged.{judged-mapped, by-verdict, meets-none, judged-split}
-use Rattle.packet.proofs.Passed.{Passed, passed, length-most}
-use Rattle.seats.specs.Record.{seatOf, settled}
+use Rattle.reader.proofs.Passed.{Passed, passed, length-most}
+use Rattle.record.specs.Record.{seatOf, settled}
 use Rattle.seats.specs.Opening.{closeRefusals, seatVerdict}
 use Rattle.bench.specs.Hearing.{messageIn, messageRefusals, packetRefusals, packetSaid, heardBench, hearing, isSent, audioIn, audioAt, isOnAir, hearingOf}
-use Rattle.bench.specs.Steps.{Whole, messageVerdict, messageSaid}
+use Rattle.bench.specs.Pieces.{Whole, messageVerdict, messageSaid}
 use Rattle.bench.specs.Answers.{packetAnswer}
-use Rattle.seats.specs.declared.record.Bench.{Bench}
+use Rattle.record.specs.declared.bench.Bench.{Bench}
 use Rattle.bench.specs.declared.hearing.Hearing.{Hearing}
 use Rattle.bench.specs.declared.hearing.PacketAnswer.the-variants as answer
 use Rattle.bench.specs.declared.hearing.Packeted.{Packeted}

@@ -12,21 +12,21 @@ use Rattle.base.proofs.Truths.{either-most, or-left}
 use Rattle.packet.specs.Packet.{audioLength}
 use Rattle.packet.specs.Quality.{quality}
 use Rattle.packet.specs.Refusals.{_if_, Answer, accepted, refused, refusal, verdictOf, judged, andThen}
-use Rattle.packet.specs.Writing.{fromRx, encode, sqiWritable, writable, writerRefusals, write, filled, buffered}
+use Rattle.writer.specs.Writing.{fromRx, encode, sqiWritable, writable, writerRefusals, write, filled, buffered}
 use Rattle.packet.specs.declared.message.SqiItem.the-variants as sqi
 use Rattle.packet.specs.declared.refusal.Refusal.{Refusal}
 use Rattle.packet.specs.declared.refusal.Verdict.{Verdict}
 use Rattle.packet.specs.declared.refusal.Verdict.the-variants.{Fine, Refused}
 use Rattle.packet.proofs.QualityLaws.{quality-most}
 use Rattle.packet.proofs.Judged.{meets-none, judged-split}
-use Rattle.seats.specs.Record.{noSuchSeat}
+use Rattle.record.specs.Record.{noSuchSeat}
 use Rattle.seats.specs.Opening.{closeRefusals, seatVerdict}
 use Rattle.air.specs.Air.{benchAir}
 use Rattle.bench.specs.Reporting.{idTold, squTold, sqiTold, audioBarred, reportOf, reportBytes, reportRefusals, reportSaid, reportBuffer}
-use Rattle.bench.specs.Steps.{reportVerdict}
-use Rattle.seats.specs.declared.record.Seat.{Seat}
-use Rattle.seats.specs.declared.record.Bench.{Bench}
-use Rattle.seats.proofs.Seats.{seat-in-range}
+use Rattle.bench.specs.Pieces.{reportVerdict}
+use Rattle.record.specs.declared.seat.Seat.{Seat}
+use Rattle.record.specs.declared.bench.Bench.{Bench}
+use Rattle.record.proofs.Seats.{seat-in-range}
 use Rattle.air.proofs.Bounds.{ptt-most, id-most}
 
 -- ---- what is told fits its bits

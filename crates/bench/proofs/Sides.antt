@@ -4,7 +4,7 @@ use mathlib.Core.Bool.{Bool, true, false, not, _||_, or-true}
 use Rattle.base.proofs.Truths.{and-rest-left}
 use Rattle.packet.specs.declared.message.Tx.{Tx}
 use Rattle.bench.specs.Hearing.{hasSide, sideBarred, takesEffect, sideAfter}
-use Rattle.seats.specs.declared.record.Field.{Field}
+use Rattle.record.specs.declared.seat.Field.{Field}
 
 -- 23 not met
 module _ (isLesson pair : Bool) (m : Tx) (passed : sideBarred isLesson pair m ≡ false) where

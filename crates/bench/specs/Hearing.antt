@@ -8,22 +8,22 @@ use Rattle.base.specs.Bytes.{partOf}
 use Rattle.base.specs.Order.{otherSsrc, late, missing}
 use Rattle.packet.specs.Packet.{payload, payloadAt, off, coupling, test}
 use Rattle.packet.specs.Refusals.{Case, _if_, Answer, accepted, refused, judged}
-use Rattle.packet.specs.Reading.{readerRefusals, messageOf, asTx}
+use Rattle.reader.specs.Reading.{readerRefusals, messageOf, asTx}
 use Rattle.packet.specs.declared.message.Direction.the-variants as direction
 use Rattle.packet.specs.declared.message.ClimaxItem.{ClimaxItem}
 use Rattle.packet.specs.declared.message.ClimaxItem.the-variants as climax
 use Rattle.packet.specs.declared.message.SideItem.{SideItem}
 use Rattle.packet.specs.declared.message.SideItem.the-variants as side
 use Rattle.packet.specs.declared.message.Tx.{Tx}
-use Rattle.seats.specs.Record.{noSuchSeat, seatOf, lesson}
+use Rattle.record.specs.Record.{noSuchSeat, seatOf, lesson}
 use Rattle.seats.specs.Opening.{isTxRx, mayKey, ownId}
 use Rattle.air.specs.Air.{benchAir}
 use Rattle.air.specs.Order.{orderAfter}
-use Rattle.seats.specs.declared.record.Setup.{Setup}
-use Rattle.seats.specs.declared.record.Field.{Field}
-use Rattle.seats.specs.declared.record.Heard.{Heard}
-use Rattle.seats.specs.declared.record.Seat.{Seat}
-use Rattle.seats.specs.declared.record.Bench.{Bench}
+use Rattle.record.specs.declared.setup.Setup.{Setup}
+use Rattle.record.specs.declared.seat.Field.{Field}
+use Rattle.record.specs.declared.seat.Heard.{Heard}
+use Rattle.record.specs.declared.seat.Seat.{Seat}
+use Rattle.record.specs.declared.bench.Bench.{Bench}
 use Rattle.bench.specs.declared.hearing.Hearing.{Hearing}
 
 -- What a seat keeps of a message: its field with its items.

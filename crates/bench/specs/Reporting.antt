@@ -8,16 +8,16 @@ use lib.ListN.{length, getD}
 use Rattle.packet.specs.Items.{rssi}
 use Rattle.packet.specs.Quality.{quality}
 use Rattle.packet.specs.Refusals.{Case, _if_, Answer, judged}
-use Rattle.packet.specs.Writing.{fromRx, encode, audioWritable, filled}
+use Rattle.writer.specs.Writing.{fromRx, encode, audioWritable, filled}
 use Rattle.packet.specs.declared.message.SqiItem.{SqiItem}
 use Rattle.packet.specs.declared.message.SqiItem.the-variants as sqi
 use Rattle.packet.specs.declared.message.SideItem.{SideItem}
 use Rattle.packet.specs.declared.message.SideItem.the-variants as side
 use Rattle.packet.specs.declared.message.Rx.{Rx}
-use Rattle.seats.specs.Record.{noSuchSeat, seatOf, withSequence}
+use Rattle.record.specs.Record.{noSuchSeat, seatOf, withSequence}
 use Rattle.air.specs.Air.{benchAir}
-use Rattle.seats.specs.declared.record.Bench.{Bench}
-use Rattle.air.specs.declared.air.Air.{Air}
+use Rattle.record.specs.declared.bench.Bench.{Bench}
+use Rattle.record.specs.declared.air.Air.{Air}
 
 -- "ptt-id: 0 if off; the seat's own if it is on the air at the top rank; else the smallest on the air at the top rank."
 -- (A seat that leads is keyed, so TxRx or Coupling, and its own ptt-id is its number: Kept, may-key.)

@@ -4,13 +4,13 @@ use mathlib.Core.Bool.{Bool, true, false, cond}
 use mathlib.Core.List.{List, [], _∷_}
 use lib.IntN.{ℤ}
 use Rattle.packet.specs.Refusals.{Answer, accepted, refused, mapped}
-use Rattle.seats.specs.Record.{settled}
+use Rattle.record.specs.Record.{settled}
 use Rattle.seats.specs.Opening.{openSaid, openedBench, closeSaid, closedBench}
 use Rattle.seats.specs.Ticking.{tickSaid, tickSets, tickedBench}
 use Rattle.seats.specs.Radio.{receivedBench, transmitterBench, sidedBench, sideSaid}
 use Rattle.bench.specs.Hearing.{packetSaid, heardBench, messageIn, audioIn}
 use Rattle.bench.specs.Reporting.{reportSaid, reportBytes, reportedBench}
-use Rattle.seats.specs.declared.record.Bench.{Bench}
+use Rattle.record.specs.declared.bench.Bench.{Bench}
 use Rattle.seats.specs.declared.opening.Request.{Request}
 use Rattle.bench.specs.declared.hearing.Hearing.{Hearing}
 

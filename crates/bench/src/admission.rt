@@ -2,18 +2,18 @@
 ghost use mathlib.Core.Path.{_≡_};
 ghost use Rattle.packet.specs.Refusals.{verdictOf};
 ghost use Rattle.bench.specs.Hearing.{keyingBarred, idAllowed, sideBarred};
-ghost use Rattle.bench.specs.Steps.{messageVerdict};
+ghost use Rattle.bench.specs.Pieces.{messageVerdict};
 use crate::memory::has_side;
 use base::late;
 use base::other_ssrc;
 use packet::Refusal;
 use packet::Tx;
-use packet::refusal::Verdict;
+use packet::Verdict;
+use record::Seat;
+use record::Setup;
+use record::lesson_seat;
 use seats::opening::may_key;
 use seats::opening::own_id;
-use seats::record::Seat;
-use seats::record::Setup;
-use seats::record::lesson_seat;
 
 // 19 to 23, in this order.
 pub fn message_verdict(setup: Setup, n: u8, s: Seat, m: Tx) -> Verdict

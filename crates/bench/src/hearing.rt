@@ -4,10 +4,10 @@ ghost use mathlib.Core.Bool.{false, cond};
 ghost use lib.ListN.{length};
 ghost use Rattle.base.specs.Bytes.{LiesAt};
 ghost use Rattle.packet.specs.Packet.{payload, payloadAt};
-ghost use Rattle.seats.specs.Record.{noSuchSeat, settled};
+ghost use Rattle.record.specs.Record.{noSuchSeat, settled};
 ghost use Rattle.bench.specs.Hearing.{messageIn, heardBench, isOnAir, hearingOf, packetSaid, audioIn, audioAt};
 ghost use Rattle.bench.specs.Answers.{packetAnswer};
-ghost use Rattle.bench.specs.Steps.{Whole, messageSaid};
+ghost use Rattle.bench.specs.Pieces.{Whole, messageSaid};
 use crate::admission::message_verdict;
 use crate::memory::field_heard;
 use crate::memory::heard_bench;
@@ -17,14 +17,14 @@ use base::missing;
 use base::part;
 use packet::Refusal;
 use packet::Tx;
-use packet::TxRead;
-use packet::payload;
-use packet::read_tx;
-use packet::refusal::Verdict;
+use packet::Verdict;
+use reader::TxRead;
+use reader::payload;
+use reader::read_tx;
+use record::Bench;
+use record::Seat;
+use record::seat_of;
 use seats::opening::seat_verdict;
-use seats::record::Bench;
-use seats::record::Seat;
-use seats::record::seat_of;
 
 // What an accepted packet answers: packets missing before it, whether to reply now, the side in use after it, and where the
 // audio to send lies in the packet (0 and 0 where the seat is not on the air).

@@ -1,17 +1,17 @@
 // What an accepted message leaves: what its seat keeps of it, the side in use, and the bench after it.
 ghost use mathlib.Core.Path.{_≡_};
 ghost use mathlib.Core.Bool.{false};
-ghost use Rattle.seats.specs.Record.{noSuchSeat};
+ghost use Rattle.record.specs.Record.{noSuchSeat};
 ghost use Rattle.bench.specs.Hearing.{hasDelay, delayOf, hasSide, isStandby, fieldHeard, heardSeat, sameField, takesEffect, sideAfter, heardBench};
 use air::order::order_after;
 use packet::ClimaxItem;
 use packet::SideItem;
 use packet::Tx;
-use seats::record::Bench;
-use seats::record::Field;
-use seats::record::Heard;
-use seats::record::Seat;
-use seats::record::seat_of;
+use record::Bench;
+use record::Field;
+use record::Heard;
+use record::Seat;
+use record::seat_of;
 
 // The bench after an accepted message.
 pub fn heard_bench(b: Bench, n: u8, m: Tx) -> Bench

@@ -3,26 +3,26 @@ ghost use mathlib.Core.Path.{_≡_};
 ghost use mathlib.Core.Bool.{false};
 ghost use Prim.Native.Nat.{_+_, _%_};
 ghost use lib.ListN.{length};
-ghost use Rattle.packet.specs.Writing.{fromRx, write, buffered, writtenAnswer};
+ghost use Rattle.writer.specs.Writing.{fromRx, write, buffered, writtenAnswer};
 ghost use Rattle.packet.specs.Refusals.{verdictOf};
-ghost use Rattle.seats.specs.Record.{noSuchSeat, settled};
+ghost use Rattle.record.specs.Record.{noSuchSeat, settled};
 ghost use Rattle.bench.specs.Reporting.{idTold, sqiTold, sideTold, audioBarred, reportOf, reportSaid, reportBuffer, reportedBench};
-ghost use Rattle.bench.specs.Steps.{reportVerdict};
-use air::air::Air;
+ghost use Rattle.bench.specs.Pieces.{reportVerdict};
 use air::air::bench_air;
 use packet::Refusal;
 use packet::Rx;
 use packet::SideItem;
 use packet::SqiItem;
-use packet::Written;
+use packet::Verdict;
 use packet::audio_length;
 use packet::quality;
-use packet::refusal::Verdict;
-use packet::write_rx;
+use record::Air;
+use record::Bench;
+use record::Seat;
+use record::seat_of;
 use seats::opening::seat_verdict;
-use seats::record::Bench;
-use seats::record::Seat;
-use seats::record::seat_of;
+use writer::Written;
+use writer::write_rx;
 
 pub struct Reported {
     pub bench: Bench,

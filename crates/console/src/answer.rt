@@ -19,10 +19,10 @@ use bench::PacketAnswer;
 use bench::Request;
 use bench::Setup;
 use packet::Rx;
-use packet::RxRead;
 use packet::Tx;
-use packet::TxRead;
-use packet::payload;
+use reader::RxRead;
+use reader::TxRead;
+use reader::payload;
 use words::put;
 use words::put_number;
 
@@ -68,8 +68,8 @@ fn fresh(s: SetupSaid) -> Bench {
         lesson,
         ext: s.ext,
         pair: s.pair,
-        summation: s.summation,
-        coupling: s.coupling,
+        equal_summation: s.summation,
+        coupling_summation: s.coupling,
     })
 }
 
@@ -159,7 +159,7 @@ fn report(b: Bench, seat: u8, timestamp: u32, lent: Lent, bytes: &[u8], out: &mu
 
 fn read_tx(b: Bench, p: &[u8], out: &mut [u8]) -> usize {
     let setup = b.setup;
-    match packet::read_tx(setup.ext, p) {
+    match reader::read_tx(setup.ext, p) {
         TxRead::Refused(r) => refused(out, r),
         TxRead::Message(m) => show::tx_line(out, m, payload(p).len()),
     }
@@ -167,7 +167,7 @@ fn read_tx(b: Bench, p: &[u8], out: &mut [u8]) -> usize {
 
 fn read_rx(b: Bench, p: &[u8], out: &mut [u8]) -> usize {
     let setup = b.setup;
-    match packet::read_rx(setup.ext, p) {
+    match reader::read_rx(setup.ext, p) {
         RxRead::Refused(r) => refused(out, r),
         RxRead::Message(m) => show::rx_line(out, m, payload(p).len()),
     }
@@ -177,7 +177,7 @@ fn write_tx(b: Bench, m: Tx, lent: Lent, bytes: &[u8], out: &mut [u8]) -> usize 
     let setup = b.setup;
     let room = least(lent.room, ROOM);
     let mut buffer = [0u8; ROOM];
-    let written = packet::write_tx(
+    let written = writer::write_tx(
         setup.ext,
         m,
         part(bytes, 0, lent.audio),
@@ -190,7 +190,7 @@ fn write_rx(b: Bench, m: Rx, lent: Lent, bytes: &[u8], out: &mut [u8]) -> usize 
     let setup = b.setup;
     let room = least(lent.room, ROOM);
     let mut buffer = [0u8; ROOM];
-    let written = packet::write_rx(
+    let written = writer::write_rx(
         setup.ext,
         m,
         part(bytes, 0, lent.audio),

@@ -23,8 +23,8 @@ fn usual() -> Setup {
         lesson: [false, false, false, false, false, false, true, true],
         ext: 0x0167,
         pair: true,
-        summation: false,
-        coupling: false,
+        equal_summation: false,
+        coupling_summation: false,
     }
 }
 

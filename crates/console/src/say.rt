@@ -5,7 +5,6 @@ use base::part;
 use bench::Hearing;
 use bench::SeatSets;
 use packet::Refusal;
-use packet::Written;
 use packet::cause;
 use packet::number;
 use show::refused_line;
@@ -14,6 +13,7 @@ use words::put_bit;
 use words::put_byte;
 use words::put_hex;
 use words::put_number;
+use writer::Written;
 
 pub fn ok(out: &mut [u8]) -> usize {
     put(out, 0, b"ok")

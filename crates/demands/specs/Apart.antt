@@ -11,11 +11,11 @@ use lib.ListN.{take, drop, getD}
 use Rattle.base.specs.Bytes.{number16, bytes16, placed}
 use Rattle.packet.specs.Packet.{pttType, pttId, ptts, test}
 use Rattle.packet.specs.Refusals.{Answer, accepted, mapped}
-use Rattle.seats.specs.Record.{seatNumbers, seatOf, lesson, freshBench}
+use Rattle.record.specs.Record.{seatNumbers, seatOf, lesson, freshBench}
 use Rattle.air.specs.Air.{rank, takesPart}
 use Rattle.bench.specs.Step.{Call, opening, closing, packet, tick, report, received, transmitter, side, Said, done, own, heard, ticked, written, Outcome, step, after}
-use Rattle.seats.specs.declared.record.Setup.{Setup}
-use Rattle.seats.specs.declared.record.Bench.{Bench}
+use Rattle.record.specs.declared.setup.Setup.{Setup}
+use Rattle.record.specs.declared.bench.Bench.{Bench}
 
 -- The seat that a call names, 0 where it names none.
 unfoldable pub named : Call → ℕ

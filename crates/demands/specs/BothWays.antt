@@ -7,49 +7,50 @@ use denote.Ref.{now}
 use lib.ListN.{length, take, drop}
 use Rattle.base.specs.Bytes.{Bytes}
 use Rattle.packet.specs.Packet.{payload}
-use Rattle.packet.specs.Writing.{fromTx, fromRx}
+use Rattle.writer.specs.Writing.{fromTx, fromRx}
 use Rattle.packet.specs.declared.message.Tx.{Tx}
 use Rattle.packet.specs.declared.message.Rx.{Rx}
-use Rattle.packet.specs.declared.reader.TxRead.the-variants as tx
-use Rattle.packet.specs.declared.reader.RxRead.the-variants as rx
-use Rattle.packet.specs.declared.writer.Written.the-variants as written
-use Rattle.packet.proofs as packet
+use Rattle.reader.specs.declared.reading.TxRead.the-variants as tx
+use Rattle.reader.specs.declared.reading.RxRead.the-variants as rx
+use Rattle.writer.specs.declared.writing.Written.the-variants as written
+use Rattle.reader.proofs as reader
+use Rattle.writer.proofs as writer
 use Rattle.demands.specs.Plain.{Plain}
 use Rattle.demands.specs.RoundTrip.{Narrow}
 use Rattle.demands.specs.StepOfCode.{Gives}
 
 -- Given these bytes, a reader answers this message.
 abbrev pub ReadsTx : (ext : ℕ) (bytes : List ℕ) → Tx → Type 0
-ReadsTx ext bytes m = Gives packet.read_tx.Reads.Learnt (λ k (type, (p, end)) r e. type ≡ ext → now p ≡ bytes → r ≡ tx.Message m)
+ReadsTx ext bytes m = Gives reader.read_tx.Reads.Learnt (λ k (type, (p, end)) r e. type ≡ ext → now p ≡ bytes → r ≡ tx.Message m)
 
 abbrev pub ReadsRx : (ext : ℕ) (bytes : List ℕ) → Rx → Type 0
-ReadsRx ext bytes m = Gives packet.read_rx.Reads.Learnt (λ k (type, (p, end)) r e. type ≡ ext → now p ≡ bytes → r ≡ rx.Message m)
+ReadsRx ext bytes m = Gives reader.read_rx.Reads.Learnt (λ k (type, (p, end)) r e. type ≡ ext → now p ≡ bytes → r ≡ rx.Message m)
 
 -- Given these bytes, `payload` hands out this audio.
 abbrev pub HandsOut : (bytes sound : List ℕ) → Type 0
-HandsOut bytes sound = Gives packet.payload.Reads.Learnt (λ k (p, end) r e. now p ≡ bytes → now r ≡ sound)
+HandsOut bytes sound = Gives reader.payload.Reads.Learnt (λ k (p, end) r e. now p ≡ bytes → now r ≡ sound)
 
 -- Given this message, audio and buffer, a writer answers this length and leaves the buffer so.
 abbrev pub WritesTx : (ext : ℕ) → Tx → (sound buffer : List ℕ) (long : ℕ) (left : List ℕ) → Type 0
-WritesTx ext m sound buffer long left = Gives packet.write_tx.Reads.Learnt (λ k (type, (message, (audio, (out, end)))) w e.
+WritesTx ext m sound buffer long left = Gives writer.write_tx.Reads.Learnt (λ k (type, (message, (audio, (out, end)))) w e.
     type ≡ ext → message ≡ m → now audio ≡ sound → now out ≡ buffer → (w ≡ written.Length long) × (now (e .1 .1 .1 .0) ≡ left))
 
 abbrev pub WritesRx : (ext : ℕ) → Rx → (sound buffer : List ℕ) (long : ℕ) (left : List ℕ) → Type 0
-WritesRx ext m sound buffer long left = Gives packet.write_rx.Reads.Learnt (λ k (type, (message, (audio, (out, end)))) w e.
+WritesRx ext m sound buffer long left = Gives writer.write_rx.Reads.Learnt (λ k (type, (message, (audio, (out, end)))) w e.
     type ≡ ext → message ≡ m → now audio ≡ sound → now out ≡ buffer → (w ≡ written.Length long) × (now (e .1 .1 .1 .0) ≡ left))
 
 pub record BothWays : Type 1 where
   -- what was written in front of the buffer reads back, with its audio
-  pub written-tx : Gives packet.write_tx.Reads.Learnt (λ k (ext, (m, (sound, (out, end)))) w e.
+  pub written-tx : Gives writer.write_tx.Reads.Learnt (λ k (ext, (m, (sound, (out, end)))) w e.
       (long : ℕ) → w ≡ written.Length long → Narrow ext (fromTx m)
       → ReadsTx ext (take long (now (e .1 .1 .1 .0))) m × HandsOut (take long (now (e .1 .1 .1 .0))) (now sound))
-  pub written-rx : Gives packet.write_rx.Reads.Learnt (λ k (ext, (m, (sound, (out, end)))) w e.
+  pub written-rx : Gives writer.write_rx.Reads.Learnt (λ k (ext, (m, (sound, (out, end)))) w e.
       (long : ℕ) → w ≡ written.Length long → Narrow ext (fromRx m)
       → ReadsRx ext (take long (now (e .1 .1 .1 .0))) m × HandsOut (take long (now (e .1 .1 .1 .0))) (now sound))
   -- what was read of a plain packet is written to the same bytes, into every buffer with room for them
-  pub read-tx : Gives packet.read_tx.Reads.Learnt (λ k (ext, (p, end)) r e.
+  pub read-tx : Gives reader.read_tx.Reads.Learnt (λ k (ext, (p, end)) r e.
       (m : Tx) → r ≡ tx.Message m → Bytes (now p) → Plain (now p) → (buffer : List ℕ) → length (now p) ≤ length buffer
       → WritesTx ext m (payload (now p)) buffer (length (now p)) (now p ++ drop (length (now p)) buffer))
-  pub read-rx : Gives packet.read_rx.Reads.Learnt (λ k (ext, (p, end)) r e.
+  pub read-rx : Gives reader.read_rx.Reads.Learnt (λ k (ext, (p, end)) r e.
       (m : Rx) → r ≡ rx.Message m → Bytes (now p) → Plain (now p) → (buffer : List ℕ) → length (now p) ≤ length buffer
       → WritesRx ext m (payload (now p)) buffer (length (now p)) (now p ++ drop (length (now p)) buffer))

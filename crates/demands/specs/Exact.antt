@@ -4,7 +4,7 @@ use Prim.Native.Nat.{ℕ}
 use mathlib.Core.Path.{_≡_}
 use mathlib.Core.List.{List}
 use Rattle.packet.specs.Refusals.{Case, FirstCase, NoCase, Answer, accepted, refused, causeOf}
-use Rattle.packet.specs.Reading.{readerRefusals, readTx, readRx}
+use Rattle.reader.specs.Reading.{readerRefusals, readTx, readRx}
 use Rattle.packet.specs.declared.message.Direction.the-variants as direction
 
 pub record Exact {A : Type 0} (cases : List Case) (answer : Answer A) : Type 0 where

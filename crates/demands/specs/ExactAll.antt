@@ -7,13 +7,13 @@ use mathlib.Core.List.{List, [], _∷_, _++_, map}
 use lib.IntN.{ℤ}
 use lib.ListN.{length, replicate}
 use Rattle.packet.specs.Refusals.{Case, refused}
-use Rattle.packet.specs.Reading.{readerRefusals}
-use Rattle.packet.specs.Writing.{writerRefusals, write, buffered}
+use Rattle.reader.specs.Reading.{readerRefusals}
+use Rattle.writer.specs.Writing.{writerRefusals, write, buffered}
 use Rattle.packet.specs.declared.message.Direction.{Direction}
 use Rattle.packet.specs.declared.message.Message.{Message}
 use Rattle.air.specs.Air.{among}
 use Rattle.bench.specs.Step.{opening, closing, packet, tick, report, received, transmitter, side}
-use Rattle.seats.specs.declared.record.Bench.{Bench}
+use Rattle.record.specs.declared.bench.Bench.{Bench}
 use Rattle.seats.specs.declared.opening.Request.{Request}
 use Rattle.demands.specs.Exact.{Exact, ReadersExact}
 use Rattle.demands.specs.ExactCalls.{refusalsOf, CallsExact}

@@ -10,8 +10,8 @@ use Rattle.packet.specs.Packet.{off, normal, emergency}
 use Rattle.packet.specs.Quality.{quality}
 use Rattle.packet.specs.Items.{rssi}
 use Rattle.packet.specs.Refusals.{_if_, Answer, accepted, refused, judged}
-use Rattle.packet.specs.Reading.{readTx, readRx}
-use Rattle.packet.specs.Writing.{fromTx, fromRx, encode}
+use Rattle.reader.specs.Reading.{readTx, readRx}
+use Rattle.writer.specs.Writing.{fromTx, fromRx, encode}
 use Rattle.packet.specs.declared.message.SqiItem.{SqiItem}
 use Rattle.packet.specs.declared.message.SqiItem.the-variants as sqi
 use Rattle.packet.specs.declared.message.ClimaxItem.{ClimaxItem}

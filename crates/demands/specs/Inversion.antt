@@ -8,8 +8,8 @@ use Rattle.base.specs.Bytes.{Bytes, bytes8, bytes16, bytes32, placed, partOf}
 use Rattle.packet.specs.Packet.{headLength, extensionAt, wordCount, payloadType, payload}
 use Rattle.packet.specs.Items.{Item}
 use Rattle.packet.specs.Refusals.{accepted}
-use Rattle.packet.specs.Reading.{read}
-use Rattle.packet.specs.Writing.{fieldOf, itemBytes}
+use Rattle.reader.specs.Reading.{read}
+use Rattle.writer.specs.Writing.{fieldOf, itemBytes}
 use Rattle.packet.specs.declared.message.Direction.{Direction}
 use Rattle.packet.specs.declared.message.Message.{Message}
 use Rattle.demands.specs.Plain.{itemsHere}

@@ -7,13 +7,13 @@ use mathlib.Core.List.{List, [], _∷_}
 use lib.ListN.{replicate}
 use Rattle.packet.specs.Packet.{normal, test}
 use Rattle.packet.specs.Refusals.{Answer, accepted}
-use Rattle.packet.specs.Writing.{fromTx, encode}
+use Rattle.writer.specs.Writing.{fromTx, encode}
 use Rattle.packet.specs.declared.message.ClimaxItem.the-variants as climax
 use Rattle.packet.specs.declared.message.SideItem.the-variants as side
 use Rattle.packet.specs.declared.message.Tx.{Tx}
-use Rattle.seats.specs.Record.{seatNumbers, freshBench}
+use Rattle.record.specs.Record.{seatNumbers, freshBench}
 use Rattle.bench.specs.Step.{Call, opening, packet, report, Said, heard, written, step, after}
-use Rattle.seats.specs.declared.record.Setup.{Setup}
+use Rattle.record.specs.declared.setup.Setup.{Setup}
 use Rattle.seats.specs.declared.opening.CallType.the-variants.{TxRx}
 use Rattle.demands.specs.Examples.{around}
 use Rattle.demands.specs.Apart.{withoutLessons, liveAboveTest, blotted}
@@ -25,8 +25,8 @@ lab =
       lesson = false ∷ false ∷ false ∷ false ∷ false ∷ false ∷ false ∷ true ∷ [];
       ext = 0x0167;
       pair = false;
-      summation = false;
-      coupling = false;
+      «equal_summation» = false;
+      «coupling_summation» = false;
     }
 
 abbrev pub enters : (n : ℕ) → Call

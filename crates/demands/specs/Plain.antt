@@ -4,7 +4,7 @@ use mathlib.Core.Path.{_≡_}
 use mathlib.Core.List.{List, [], _∷_}
 use Rattle.packet.specs.Packet.{csrcCount, wordCount, field, x, afterField}
 use Rattle.packet.specs.Items.{Item, itemsOf}
-use Rattle.packet.specs.Writing.{fewestWords}
+use Rattle.writer.specs.Writing.{fewestWords}
 
 unfoldable pub itemsHere : List ℕ → List Item
 itemsHere p = itemsOf (x (field p)) (afterField p)

@@ -8,8 +8,8 @@ use lib.ListN.{length, drop}
 use Rattle.base.specs.Bytes.{Bytes}
 use Rattle.packet.specs.Packet.{payload}
 use Rattle.packet.specs.Refusals.{accepted}
-use Rattle.packet.specs.Reading.{read, readTx, readRx}
-use Rattle.packet.specs.Writing.{fromTx, fromRx, encode, writable, write, buffered}
+use Rattle.reader.specs.Reading.{read, readTx, readRx}
+use Rattle.writer.specs.Writing.{fromTx, fromRx, encode, writable, write, buffered}
 use Rattle.packet.specs.declared.message.Direction.{Direction}
 use Rattle.packet.specs.declared.message.Message.{Message}
 use Rattle.packet.specs.declared.message.Tx.{Tx}

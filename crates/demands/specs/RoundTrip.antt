@@ -6,12 +6,12 @@ use mathlib.Core.List.{List}
 use lib.ListN.{length, take}
 use Rattle.packet.specs.Packet.{payload}
 use Rattle.packet.specs.Refusals.{accepted}
-use Rattle.packet.specs.Reading.{readTx, readRx}
-use Rattle.packet.specs.Writing.{fromTx, fromRx, encode, writable, write, buffered}
+use Rattle.reader.specs.Reading.{readTx, readRx}
+use Rattle.writer.specs.Writing.{fromTx, fromRx, encode, writable, write, buffered}
 use Rattle.packet.specs.declared.message.Message.{Message}
 use Rattle.packet.specs.declared.message.Tx.{Tx}
 use Rattle.packet.specs.declared.message.Rx.{Rx}
-use Rattle.seats.specs.declared.record.Bench.{Bench}
+use Rattle.record.specs.declared.bench.Bench.{Bench}
 use Rattle.bench.specs.Reporting.{reportOf, reportSaid, reportBytes}
 use Rattle.demands.specs.Plain.{Plain}
 

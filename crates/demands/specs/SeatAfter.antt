@@ -7,13 +7,13 @@ use mathlib.Core.List.{List, [], _∷_}
 use lib.Dec.{eqb}
 use lib.ListN.{length}
 use Rattle.packet.specs.Refusals.{NoCase}
-use Rattle.seats.specs.Record.{closedSeat, openedSeat, seatOf}
+use Rattle.record.specs.Record.{closedSeat, openedSeat, seatOf}
 use Rattle.seats.specs.Opening.{callCode}
 use Rattle.seats.specs.Ticking.{tickedSeat}
 use Rattle.bench.specs.Hearing.{heardSeat, messageIn}
 use Rattle.bench.specs.Step.{Call, opening, closing, packet, tick, report, received, transmitter, side, step, after, acceptedCalls}
-use Rattle.seats.specs.declared.record.Seat.{Seat}
-use Rattle.seats.specs.declared.record.Bench.{Bench}
+use Rattle.record.specs.declared.seat.Seat.{Seat}
+use Rattle.record.specs.declared.bench.Bench.{Bench}
 use Rattle.demands.specs.ExactCalls.{refusalsOf}
 
 -- what an accepted call makes of seat n

@@ -7,18 +7,20 @@ use denote.Ref.{now}
 use lib.ListN.{length, take}
 use Rattle.packet.specs.Refusals.{Answer, accepted, mapped}
 use Rattle.packet.specs.Packet.{payload}
-use Rattle.packet.specs.Reading.{readTx, readRx, txAnswer, rxAnswer}
-use Rattle.packet.specs.Writing.{fromTx, fromRx, write, buffered, writtenAnswer}
-use Rattle.seats.specs.Record.{freshBench}
+use Rattle.reader.specs.Reading.{readTx, readRx, txAnswer, rxAnswer}
+use Rattle.writer.specs.Writing.{fromTx, fromRx, write, buffered, writtenAnswer}
+use Rattle.record.specs.Record.{freshBench}
 use Rattle.seats.specs.Answers.{openAnswer, doneAnswer}
 use Rattle.bench.specs.Hearing.{audioIn}
 use Rattle.bench.specs.Reporting.{reportBuffer}
 use Rattle.bench.specs.Answers.{packetAnswer}
 use Rattle.bench.specs.Step.{opening, closing, packet, tick, report, received, transmitter, side, Said, done, own, heard, ticked, written, Outcome, step}
-use Rattle.seats.specs.declared.record.Bench.{Bench}
+use Rattle.record.specs.declared.bench.Bench.{Bench}
 use Rattle.seats.specs.declared.ticking.SeatSets.{SeatSets}
 use Rattle.bench.specs.declared.hearing.Hearing.{Hearing}
-use Rattle.packet.proofs as packets
+use Rattle.reader.proofs as reader
+use Rattle.writer.proofs as writer
+use Rattle.record.proofs as the-record
 use Rattle.seats.proofs as seats
 use Rattle.bench.proofs as bench
 
@@ -46,15 +48,15 @@ inFront left long = written (take long left)
 
 pub record StepOfCode : Type 1 where
   -- the readers and the writers
-  pub reads-tx : Gives packets.read_tx.Reads.Learnt (λ k (ext, (p, end)) r e. txAnswer r ≡ readTx ext (now p))
-  pub reads-rx : Gives packets.read_rx.Reads.Learnt (λ k (ext, (p, end)) r e. rxAnswer r ≡ readRx ext (now p))
-  pub pays-out : Gives packets.payload.Reads.Learnt (λ k (p, end) r e. now r ≡ payload (now p))
-  pub writes-tx : Gives packets.write_tx.Reads.Learnt (λ k (ext, (m, (sound, (out, end)))) r e.
+  pub reads-tx : Gives reader.read_tx.Reads.Learnt (λ k (ext, (p, end)) r e. txAnswer r ≡ readTx ext (now p))
+  pub reads-rx : Gives reader.read_rx.Reads.Learnt (λ k (ext, (p, end)) r e. rxAnswer r ≡ readRx ext (now p))
+  pub pays-out : Gives reader.payload.Reads.Learnt (λ k (p, end) r e. now r ≡ payload (now p))
+  pub writes-tx : Gives writer.write_tx.Reads.Learnt (λ k (ext, (m, (sound, (out, end)))) r e.
       (writtenAnswer r ≡ write ext (fromTx m) (now sound) (length (now out))) × (now (e .1 .1 .1 .0) ≡ buffered ext (fromTx m) (now sound) (now out)))
-  pub writes-rx : Gives packets.write_rx.Reads.Learnt (λ k (ext, (m, (sound, (out, end)))) r e.
+  pub writes-rx : Gives writer.write_rx.Reads.Learnt (λ k (ext, (m, (sound, (out, end)))) r e.
       (writtenAnswer r ≡ write ext (fromRx m) (now sound) (length (now out))) × (now (e .1 .1 .1 .0) ≡ buffered ext (fromRx m) (now sound) (now out)))
   -- the calls of the bench
-  pub starts : Gives seats.record.Bench.fresh.Reads.Learnt (λ k (setup, end) r e. r ≡ freshBench setup)
+  pub starts : Gives the-record.bench.Bench.fresh.Reads.Learnt (λ k (setup, end) r e. r ≡ freshBench setup)
   pub opens : Gives seats.«open».Reads.Learnt
       (λ k (b, (n, (request, end))) r e. did (mapped own (openAnswer (r .answer))) (r .bench) ≡ step b (opening n request))
   pub closes : Gives seats.close.Reads.Learnt

@@ -8,6 +8,9 @@ use mathlib.Core.List.{List}
 use denote.Ref.{RefT, now}
 use Rattle.base.proofs as base
 use Rattle.packet.proofs as packet
+use Rattle.reader.proofs as reader
+use Rattle.writer.proofs as writer
+use Rattle.record.proofs as the-record
 use Rattle.seats.proofs as seats
 use Rattle.air.proofs as air
 use Rattle.bench.proofs as bench
@@ -47,23 +50,30 @@ pub record TightBase : Type 1 where
   pub missing : OneResult base.missing.Reads.Learnt
 
 pub record TightPacket : Type 1 where
-  pub read-tx : OneResult packet.read_tx.Reads.Learnt
-  pub read-rx : OneResult packet.read_rx.Reads.Learnt
-  pub payload : OnePart packet.payload.Reads.Learnt
-  pub audio-length : OneResult packet.audio_length.Reads.Learnt
-  pub write-tx : OneResultAndBuffer packet.write_tx.Reads.Learnt (λ k e. e .1 .1 .1 .0)
-  pub write-rx : OneResultAndBuffer packet.write_rx.Reads.Learnt (λ k e. e .1 .1 .1 .0)
   pub number : OneResult packet.number.Reads.Learnt
   pub cause : OneResult packet.cause.Reads.Learnt
   pub quality : OneResult packet.quality.Reads.Learnt
+  pub audio-length : OneResult packet.audio_length.Reads.Learnt
+  pub sqi-allowed : OneResult packet.sqi_allowed.Reads.Learnt
+
+pub record TightReader : Type 1 where
+  pub read-tx : OneResult reader.read_tx.Reads.Learnt
+  pub read-rx : OneResult reader.read_rx.Reads.Learnt
+  pub payload : OnePart reader.payload.Reads.Learnt
+
+pub record TightWriter : Type 1 where
+  pub write-tx : OneResultAndBuffer writer.write_tx.Reads.Learnt (λ k e. e .1 .1 .1 .0)
+  pub write-rx : OneResultAndBuffer writer.write_rx.Reads.Learnt (λ k e. e .1 .1 .1 .0)
+
+pub record TightRecord : Type 1 where
+  pub opened : OneResult the-record.seat.Seat.opened.Reads.Learnt
+  pub fresh : OneResult the-record.bench.Bench.fresh.Reads.Learnt
+  pub no-such-seat : OneResult the-record.no_such_seat.Reads.Learnt
+  pub seat-of : OneResult the-record.seat_of.Reads.Learnt
+  pub lesson-seat : OneResult the-record.lesson_seat.Reads.Learnt
+  pub is-open : OneResult the-record.«is_open».Reads.Learnt
 
 pub record TightSeats : Type 1 where
-  pub opened : OneResult seats.record.Seat.opened.Reads.Learnt
-  pub fresh : OneResult seats.record.Bench.fresh.Reads.Learnt
-  pub no-such-seat : OneResult seats.record.no_such_seat.Reads.Learnt
-  pub seat-of : OneResult seats.record.seat_of.Reads.Learnt
-  pub lesson-seat : OneResult seats.record.lesson_seat.Reads.Learnt
-  pub is-open : OneResult seats.record.«is_open».Reads.Learnt
   pub open-seat : OneResult seats.«open».Reads.Learnt
   pub close : OneResult seats.close.Reads.Learnt
   pub seat-verdict : OneResult seats.opening.seat_verdict.Reads.Learnt
@@ -112,10 +122,13 @@ pub record TightShow : Type 1 where
   pub answer-line : OneResultAndBuffer show.answer_line.Reads.Learnt (λ k e. e .0)
   pub decode : OneResultAndBuffer show.decode.Reads.Learnt (λ k e. e .0)
 
--- All 68.
+-- All 69.
 pub record Tight : Type 1 where
   pub base : TightBase
   pub packet : TightPacket
+  pub reader : TightReader
+  pub writer : TightWriter
+  pub the-record : TightRecord
   pub seats : TightSeats
   pub air : TightAir
   pub bench : TightBench

@@ -5,11 +5,11 @@ use mathlib.Core.Path.{_≡_}
 use mathlib.Core.Bool.{true, false}
 use mathlib.Core.List.{List, []}
 use Rattle.packet.specs.Refusals.{Answer, accepted, refused}
-use Rattle.seats.specs.Record.{seatNumbers, lesson, freshBench}
+use Rattle.record.specs.Record.{seatNumbers, lesson, freshBench}
 use Rattle.air.specs.Air.{benchAir}
 use Rattle.bench.specs.Step.{Call, packet, report, Said, done, own, heard, ticked, written, step, after}
-use Rattle.seats.specs.declared.record.Setup.{Setup}
-use Rattle.seats.specs.declared.record.Bench.{Bench}
+use Rattle.record.specs.declared.setup.Setup.{Setup}
+use Rattle.record.specs.declared.bench.Bench.{Bench}
 use Rattle.demands.specs.Apart.{withoutLessons, liveAboveTest}
 
 unfoldable pub audioSent : Answer Said → List ℕ

@@ -9,10 +9,10 @@ use mathlib.Core.List.{List, [], _∷_}
 use lib.ListN.{drop}
 use Rattle.packet.specs.Packet.{off, normal}
 use Rattle.packet.specs.Refusals.{Answer, accepted, refused, mapped}
-use Rattle.seats.specs.Record.{seatOf, freshBench}
+use Rattle.record.specs.Record.{seatOf, freshBench}
 use Rattle.bench.specs.Step.{Call, opening, closing, packet, tick, report, received, transmitter, side, Said, done, own, heard, ticked, written, Outcome, step, after}
-use Rattle.seats.specs.declared.record.Setup.{Setup}
-use Rattle.seats.specs.declared.record.Bench.{Bench}
+use Rattle.record.specs.declared.setup.Setup.{Setup}
+use Rattle.record.specs.declared.bench.Bench.{Bench}
 use Rattle.demands.specs.Examples.{around}
 use Rattle.demands.specs.Apart.{withoutLessons, pttOf, Apart}
 use Rattle.demands.specs.LessonsSeen.{lab, enters, voice, keys, asked, answer}

@@ -1,11 +1,4 @@
 pub mod Judged
-pub mod OneByOne
-pub mod Taken
-pub mod Meaning
-pub mod Steps
-pub mod Passed
 pub mod TellApart
 pub mod Levels
 pub mod QualityLaws
-pub mod Words
-pub mod Written

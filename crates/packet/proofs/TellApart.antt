@@ -4,18 +4,10 @@ use mathlib.Core.Path.{_≡_, refl, ap, sym, _∙_}
 use mathlib.Core.Bool.{cond}
 use lib.Dec.{eqb}
 use Rattle.packet.specs.Refusals.{numberOf, causeOf, accepted, refusal, verdictOf}
-use Rattle.packet.specs.Reading.{txAnswer, rxAnswer}
 use Rattle.packet.specs.declared.refusal.Refusal.{Refusal}
 use Rattle.packet.specs.declared.refusal.Refusal.the-variants.{TooShort, WrongVersion, PaddingOrMarker, NoExtension, PayloadType, ExtensionCut, ExtensionType, WordCount, WordsCut, FieldRule, ItemRule, PayloadLength, NoSuchSeat, SeatNotOpen, SeatOpenAlready, PeriodOrMultiplier, LessonCoupling, CouplingTaken, OtherSsrc, NotAfterLast, KeyingNotAllowed, OtherId, SideNotAllowed, ElapsedTooLong, ReportAudio, BufferTooShort, UnwritableValue}
 use Rattle.packet.specs.declared.refusal.Verdict.{Verdict}
 use Rattle.packet.specs.declared.refusal.Verdict.the-variants as verdict
-use Rattle.packet.specs.Writing.{writtenAnswer}
-use Rattle.packet.specs.declared.writer.Written.{Written}
-use Rattle.packet.specs.declared.writer.Written.the-variants as written
-use Rattle.packet.specs.declared.reader.TxRead.{TxRead}
-use Rattle.packet.specs.declared.reader.TxRead.the-variants as tx
-use Rattle.packet.specs.declared.reader.RxRead.{RxRead}
-use Rattle.packet.specs.declared.reader.RxRead.the-variants as rx
 use Rattle.packet.proofs.Judged.{never}
 
 -- the refusal of a number
@@ -87,24 +79,6 @@ refusal-tells r s e = number-tells r s (cc)
 
 pub not-refused : {A : Type 0} (a : A) (r : Refusal) → accepted a ≡ refusal r → ⊥
 not-refused a r e = never a (numberOf r) (causeOf (numberOf r)) e
-
-pub tx-tells : (a b : TxRead) → txAnswer a ≡ txAnswer b → a ≡ b
-tx-tells (tx.Message m) (tx.Message n) e = cc
-tx-tells (tx.Message m) (tx.Refused r) e = absurd (not-refused m r e)
-tx-tells (tx.Refused r) (tx.Message m) e = absurd (not-refused m r (sym e))
-tx-tells (tx.Refused r) (tx.Refused s) e = ap tx.Refused (refusal-tells r s e)
-
-pub rx-tells : (a b : RxRead) → rxAnswer a ≡ rxAnswer b → a ≡ b
-rx-tells (rx.Message m) (rx.Message n) e = cc
-rx-tells (rx.Message m) (rx.Refused r) e = absurd (not-refused m r e)
-rx-tells (rx.Refused r) (rx.Message m) e = absurd (not-refused m r (sym e))
-rx-tells (rx.Refused r) (rx.Refused s) e = ap rx.Refused (refusal-tells r s e)
-
-pub written-tells : (a b : Written) → writtenAnswer a ≡ writtenAnswer b → a ≡ b
-written-tells (written.Length m) (written.Length n) e = cc
-written-tells (written.Length m) (written.Refused r) e = absurd (not-refused m r e)
-written-tells (written.Refused r) (written.Length m) e = absurd (not-refused m r (sym e))
-written-tells (written.Refused r) (written.Refused s) e = ap written.Refused (refusal-tells r s e)
 
 pub verdict-tells : (a b : Verdict) → verdictOf a ≡ verdictOf b → a ≡ b
 verdict-tells verdict.Fine verdict.Fine e = refl

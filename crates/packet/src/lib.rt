@@ -1,33 +1,24 @@
-// The packet of document 01: messages, readers, writers, refusals.
-// Start at specs/Packet.antt, Items.antt, Refusals.antt, Reading.antt and Writing.antt, which say in 01's order what the
-// public functions promise; then reader.rt and writer.rt. Private: frame.rt (refusals 1 to 9), items.rt (11), plain.rt
-// (the bytes that a writer puts). Apart from these, level.rt is the quality of a level, said in specs/Quality.antt.
-mod frame;
-mod items;
+// What a packet of document 01 is: the messages of both directions, every refusal with its number and cause, the rules that
+// readers and writers share, and the quality of a level.
+// Start at specs/Packet.antt, Items.antt and Refusals.antt, which say it in 01's order; the crates `reader` and `writer` do it.
+// Apart from these, level.rt is the quality of a level, said in specs/Quality.antt.
 pub mod level;
 pub mod message;
-mod plain;
-pub mod reader;
 pub mod refusal;
-pub mod writer;
+pub mod rules;
 
 pub use level::quality;
 pub use message::ClimaxItem;
 pub use message::Direction;
+pub use message::Items;
+pub use message::Message;
 pub use message::Rx;
 pub use message::SideItem;
 pub use message::SqiItem;
 pub use message::Tx;
-pub use reader::RxRead;
-pub use reader::TxRead;
-pub use reader::audio_length;
-pub use reader::payload;
-pub use reader::read_rx;
-pub use reader::read_tx;
 pub use refusal::Refusal;
 pub use refusal::Verdict;
 pub use refusal::cause;
 pub use refusal::number;
-pub use writer::Written;
-pub use writer::write_rx;
-pub use writer::write_tx;
+pub use rules::audio_length;
+pub use rules::sqi_allowed;

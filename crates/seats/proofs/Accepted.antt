@@ -8,12 +8,12 @@ use lib.Dec.{leb}
 use borrow.Author.Tests.{ltb-false, leb-true, not-false}
 use Rattle.base.proofs.Truths.{and-left, and-right, and-rest}
 use Rattle.packet.specs.Refusals.{NoCase}
-use Rattle.seats.specs.Record.{noSuchSeat, seatOf, lesson}
+use Rattle.record.specs.Record.{noSuchSeat, seatOf, lesson}
 use Rattle.seats.specs.Opening.{asksCoupling, anyCoupling, timesAllowed, openRefusals, closeRefusals}
 use Rattle.seats.specs.Ticking.{tickRefusals}
 use Rattle.seats.specs.Radio.{sideRefusals}
-use Rattle.seats.specs.declared.record.Setup.{Setup}
-use Rattle.seats.specs.declared.record.Seat.{Seat}
+use Rattle.record.specs.declared.setup.Setup.{Setup}
+use Rattle.record.specs.declared.seat.Seat.{Seat}
 use Rattle.seats.specs.declared.opening.Request.{Request}
 
 pub record OpenAccepted (setup : Setup) (n : ℕ) (seats : List Seat) (r : Request) : Type 0 where

@@ -1,26 +1,27 @@
 -- The cases of opening and closing a seat, as the answers of the code ask for them.
-use Prim.Native.Nat.{ℕ, _+_, _<_, _≤_}
+use Prim.Native.Nat.{ℕ, zero, suc, _+_, _-_, _<_, _≤_}
 use mathlib.Core.Path.{_≡_, refl, ap, sym, _∙_}
-use mathlib.Core.Bool.{Bool, true, false, not, _&&_}
-use mathlib.Core.List.{List}
+use mathlib.Core.Bool.{Bool, true, false, cond, not, _&&_}
+use mathlib.Core.List.{List, [], _∷_}
 use lib.Dec.{eqb}
 use lib.ListN.{length, drop, getD}
 use Rattle.base.proofs.Loops.{left-more, left-done}
+use Rattle.base.proofs.Truths.{or-left, or-right}
 use Rattle.packet.specs.Refusals.{accepted, refused, refusal, verdictOf}
 use Rattle.packet.proofs.Judged.{meets-none}
 use Rattle.packet.specs.declared.refusal.Refusal.{Refusal}
 use Rattle.packet.specs.declared.refusal.Verdict.{Verdict}
 use Rattle.packet.specs.declared.refusal.Verdict.the-variants as verdict
-use Rattle.seats.specs.Record.{noSuchSeat, seatOf, lesson, closedSeat, settled}
+use Rattle.record.specs.Record.{noSuchSeat, seatOf, lesson, closedSeat, settled}
 use Rattle.seats.specs.Opening.{callCode, mayKey, asksCoupling, timesAllowed, holdsCoupling, anyCoupling, ownId, openRefusals, openSaid, openedBench, closeRefusals, seatVerdict, closeSaid, closedBench}
 use Rattle.seats.specs.Answers.{openAnswer}
-use Rattle.seats.specs.declared.record.Seat.{Seat}
-use Rattle.seats.specs.declared.record.Bench.{Bench}
+use Rattle.record.specs.declared.seat.Seat.{Seat}
+use Rattle.record.specs.declared.bench.Bench.{Bench}
 use Rattle.seats.specs.declared.opening.Request.{Request}
 use Rattle.seats.specs.declared.opening.OpenAnswer.{OpenAnswer}
 use Rattle.seats.specs.declared.opening.OpenAnswer.the-variants as opening
 use Rattle.seats.proofs.Accepted.{open-accepted, close-accepted}
-use Rattle.seats.proofs.RecordLaws.{recordCases}
+use Rattle.record.proofs.RecordLaws.{recordCases}
 
 -- ---- the call type
 
@@ -143,3 +144,20 @@ module _ (b : Bench) (n : ℕ) (v : Verdict) (said : verdictOf v ≡ seatVerdict
   closed-stays x e = rw (← as-closed, e)
 
 pub ruleset openingCases = (asks-by, own-number, own-none, coupling-found, coupling-passed, coupling-nowhere, open-13, open-15, open-16, open-17, open-18, open-done, seat-13, seat-14, seat-fine, seat-there, opened-seat, opened-moves, opened-stays, close-done, closed-moves, close-refused, closed-stays, recordCases)
+
+-- ---- 18 not met
+
+none-at-place : (ss : List Seat) (i : ℕ) → anyCoupling ss ≡ false → holdsCoupling (getD ss i closedSeat) ≡ false
+unfolding anyCoupling
+none-at-place [] i e = refl
+none-at-place (s ∷ ss) zero e = or-left (holdsCoupling s) (anyCoupling ss) e
+none-at-place (s ∷ ss) (suc i) e = none-at-place ss i (or-right (holdsCoupling s) (anyCoupling ss) e)
+
+-- no seat is Coupling
+pub none-coupling : (ss : List Seat) (n : ℕ) → anyCoupling ss ≡ false → holdsCoupling (seatOf ss n) ≡ false
+unfolding seatOf
+none-coupling ss n e = by-case (noSuchSeat n)
+  where
+    by-case : (none : Bool) → holdsCoupling (cond none closedSeat (getD ss (n - 1) closedSeat)) ≡ false
+    by-case true = refl
+    by-case false = none-at-place ss (n - 1) e

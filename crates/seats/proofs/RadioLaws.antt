@@ -3,9 +3,9 @@ use mathlib.Core.Path.{_≡_}
 use mathlib.Core.Bool.{Bool, true, false}
 use borrow.Author.Needs.{needs}
 use Rattle.packet.specs.Refusals.{accepted, refused}
-use Rattle.seats.specs.Record.{settled}
+use Rattle.record.specs.Record.{settled}
 use Rattle.seats.specs.Radio.{sidedBench, sideRefusals, sideSaid}
-use Rattle.seats.specs.declared.record.Bench.{Bench}
+use Rattle.record.specs.declared.bench.Bench.{Bench}
 
 module _ (b : Bench) where
   pub side-23 : b .setup .pair ≡ false → refused 23 0 ≡ sideSaid b

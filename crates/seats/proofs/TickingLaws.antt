@@ -13,10 +13,10 @@ use mir.Val.{Fits}
 use Rattle.base.proofs.Loops.{fill-more, fill-done}
 use Rattle.base.proofs.Truths.{and-left, and-right}
 use Rattle.packet.specs.Refusals.{accepted, refused}
-use Rattle.seats.specs.Record.{closedSeat, settled}
+use Rattle.record.specs.Record.{closedSeat, settled}
 use Rattle.seats.specs.Ticking.{fallsSilent, phaseAfter, isDue, aged, tickedSeat, tickRefusals, tickSaid, noSeats, tickSets, tickedBench}
-use Rattle.seats.specs.declared.record.Seat.{Seat}
-use Rattle.seats.specs.declared.record.Bench.{Bench}
+use Rattle.record.specs.declared.seat.Seat.{Seat}
+use Rattle.record.specs.declared.bench.Bench.{Bench}
 use Rattle.seats.specs.declared.ticking.SeatSets.{SeatSets}
 
 -- what is left over of a period fits where the period does

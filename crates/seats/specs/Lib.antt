@@ -1,5 +1,4 @@
--- What a seat is and what opening, closing, time and the radio do to it, in the order of document 01.
-pub mod Record
+-- What opening, closing, time and the radio do to a seat, in the order of document 01.
 pub mod Opening
 pub mod Ticking
 pub mod Radio

@@ -4,10 +4,10 @@ use mathlib.Core.Bool.{Bool, false, cond, not, _&&_, _||_}
 use mathlib.Core.List.{List, [], _∷_}
 use lib.Dec.{leb, eqb}
 use Rattle.packet.specs.Refusals.{Case, _if_, Answer, judged}
-use Rattle.seats.specs.Record.{noSuchSeat, seatOf, lesson, closedSeat, openedSeat, withSeat, withSequence}
-use Rattle.seats.specs.declared.record.Setup.{Setup}
-use Rattle.seats.specs.declared.record.Seat.{Seat}
-use Rattle.seats.specs.declared.record.Bench.{Bench}
+use Rattle.record.specs.Record.{noSuchSeat, seatOf, lesson, closedSeat, openedSeat, withSeat, withSequence}
+use Rattle.record.specs.declared.setup.Setup.{Setup}
+use Rattle.record.specs.declared.seat.Seat.{Seat}
+use Rattle.record.specs.declared.bench.Bench.{Bench}
 use Rattle.seats.specs.declared.opening.CallType.{CallType}
 use Rattle.seats.specs.declared.opening.CallType.the-variants.{Idle, RxOnly, TxRx, Coupling}
 use Rattle.seats.specs.declared.opening.Request.{Request}

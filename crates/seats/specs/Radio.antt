@@ -5,8 +5,8 @@ use mathlib.Core.Bool.{Bool, not}
 use mathlib.Core.List.{List, [], _∷_}
 use lib.IntN.{ℤ}
 use Rattle.packet.specs.Refusals.{Case, _if_, Answer, judged}
-use Rattle.seats.specs.declared.record.Setup.{Setup}
-use Rattle.seats.specs.declared.record.Bench.{Bench}
+use Rattle.record.specs.declared.setup.Setup.{Setup}
+use Rattle.record.specs.declared.bench.Bench.{Bench}
 
 unfoldable pub receivedBench : Bench → (signals : ℕ) (level : ℤ) → Bench
 receivedBench b signals level =

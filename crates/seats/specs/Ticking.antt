@@ -5,9 +5,9 @@ use mathlib.Core.List.{List, [], _∷_, map}
 use lib.Dec.{ltb, leb, eqb}
 use lib.ListN.{replicate}
 use Rattle.packet.specs.Refusals.{Case, _if_, Answer, judged}
-use Rattle.seats.specs.Record.{closedSeat, withSeats}
-use Rattle.seats.specs.declared.record.Seat.{Seat}
-use Rattle.seats.specs.declared.record.Bench.{Bench}
+use Rattle.record.specs.Record.{closedSeat, withSeats}
+use Rattle.record.specs.declared.seat.Seat.{Seat}
+use Rattle.record.specs.declared.bench.Bench.{Bench}
 use Rattle.seats.specs.declared.ticking.SeatSets.{SeatSets}
 
 -- "A tick takes its ms from that; the seat is closed if nothing is left."

@@ -1,10 +1,9 @@
-// The record of the bench, and what opening, closing, time and the radio do to it.
-// Start at specs/Record.antt, then Opening.antt, Ticking.antt and Radio.antt, which say in 01's order what the public
-// functions promise; specs/Answers.antt reads their answers as 01 writes them.
+// What opening, closing, time and the radio do to the bench.
+// Start at specs/Opening.antt, then Ticking.antt and Radio.antt, which say in 01's order what the public functions promise;
+// specs/Answers.antt reads their answers as 01 writes them.
 pub mod answer;
 pub mod opening;
 pub mod radio;
-pub mod record;
 pub mod ticking;
 
 pub use answer::Done;
@@ -18,11 +17,6 @@ pub use opening::open;
 pub use radio::received;
 pub use radio::side;
 pub use radio::transmitter;
-pub use record::Bench;
-pub use record::Field;
-pub use record::Heard;
-pub use record::Seat;
-pub use record::Setup;
 pub use ticking::SeatSets;
 pub use ticking::Ticked;
 pub use ticking::silence_cause;

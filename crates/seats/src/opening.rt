@@ -2,18 +2,18 @@
 ghost use mathlib.Core.Path.{_≡_};
 ghost use mathlib.Core.Bool.{false};
 ghost use Rattle.packet.specs.Refusals.{verdictOf};
-ghost use Rattle.seats.specs.Record.{noSuchSeat, settled};
+ghost use Rattle.record.specs.Record.{noSuchSeat, settled};
 ghost use Rattle.seats.specs.Opening.{callCode, mayKey, asksCoupling, timesAllowed, holdsCoupling, anyCoupling, ownId, openSaid, openedBench, seatVerdict, closeSaid, closedBench};
 ghost use Rattle.seats.specs.Answers.{openAnswer, doneAnswer};
 use crate::answer::Done;
 use crate::answer::DoneAnswer;
-use crate::record::Bench;
-use crate::record::Seat;
-use crate::record::is_open;
-use crate::record::lesson_seat;
-use crate::record::no_such_seat;
 use packet::Refusal;
-use packet::refusal::Verdict;
+use packet::Verdict;
+use record::Bench;
+use record::Seat;
+use record::is_open;
+use record::lesson_seat;
+use record::no_such_seat;
 
 // The call types, in 01's order.
 pub enum CallType {

@@ -1,12 +1,12 @@
 // Radio events: what the radio itself receives, and how it is doing.
 ghost use mathlib.Core.Path.{_≡_};
-ghost use Rattle.seats.specs.Record.{settled};
+ghost use Rattle.record.specs.Record.{settled};
 ghost use Rattle.seats.specs.Radio.{receivedBench, transmitterBench, sidedBench, sideSaid};
 ghost use Rattle.seats.specs.Answers.{doneAnswer};
 use crate::answer::Done;
 use crate::answer::DoneAnswer;
-use crate::record::Bench;
 use packet::Refusal;
+use record::Bench;
 
 // Signals received, with the level in whole dBm.
 pub fn received(b: Bench, signals: u8, level: i16) -> Bench

@@ -2,13 +2,13 @@
 ghost use mathlib.Core.Path.{_≡_};
 ghost use mathlib.Core.List.{map};
 ghost use Prim.Native.Nat.{_<_};
-ghost use Rattle.seats.specs.Record.{settled};
+ghost use Rattle.record.specs.Record.{settled};
 ghost use Rattle.seats.specs.Ticking.{fallsSilent, phaseAfter, isDue, aged, tickedSeat, silenceCause, tickSaid, tickSets, tickedBench};
 ghost use Rattle.seats.specs.Answers.{doneAnswer};
 use crate::answer::DoneAnswer;
-use crate::record::Bench;
-use crate::record::Seat;
 use packet::Refusal;
+use record::Bench;
+use record::Seat;
 
 // Sets of seats: those closed by silence, and those due a report. Seat n has place n - 1.
 #[repr(C)]

@@ -13,10 +13,10 @@ use Rattle.base.proofs.Truths.{or-right}
 use Rattle.packet.specs.Refusals.{Case, _if_, Answer, refused, causeOf, judged, mapped}
 use Rattle.packet.specs.Packet.{padding, marker, extensionAt, extensionType, wordsAt, wordCount, payloadAt, payload, payloadAllowed, payloadType, audio, r2s, field, fieldAllowed, afterField, x}
 use Rattle.packet.specs.Items.{itemsAllowed}
-use Rattle.packet.specs.Reading.{readerRefusals, read, readTx, messageOf, asTx}
+use Rattle.reader.specs.Reading.{readerRefusals, read, readTx, messageOf, asTx}
 use Rattle.packet.specs.declared.message.Direction.{Direction}
 use Rattle.packet.specs.declared.message.Direction.the-variants as direction
-use Rattle.packet.proofs.Passed.{payload-most, payload-length}
+use Rattle.reader.proofs.Passed.{payload-most, payload-length}
 use Rattle.words.specs.Text.{text}
 use Rattle.show.specs.Lines.{answerLine, decodedLine}
 

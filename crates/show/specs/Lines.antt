@@ -8,7 +8,7 @@ use lib.ListN.{length}
 use Rattle.words.specs.Text.{text, digits, decimal, bit}
 use Rattle.packet.specs.Packet.{payload}
 use Rattle.packet.specs.Refusals.{Answer, accepted, refused}
-use Rattle.packet.specs.Reading.{readTx}
+use Rattle.reader.specs.Reading.{readTx}
 use Rattle.packet.specs.declared.message.ClimaxItem.{ClimaxItem}
 use Rattle.packet.specs.declared.message.ClimaxItem.the-variants as climax
 use Rattle.packet.specs.declared.message.SideItem.{SideItem}

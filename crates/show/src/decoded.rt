@@ -1,13 +1,13 @@
 // What the decoding programs print for a packet.
 ghost use Rattle.words.specs.Text.{Written};
-ghost use Rattle.packet.specs.Reading.{txAnswer};
+ghost use Rattle.reader.specs.Reading.{txAnswer};
 ghost use Rattle.show.specs.Lines.{answerLine, decodedLine};
 use crate::line::refused_line;
 use crate::line::tx_line;
-use packet::TxRead;
 use packet::number;
-use packet::payload;
-use packet::read_tx;
+use reader::TxRead;
+use reader::payload;
+use reader::read_tx;
 use words::put_byte;
 
 pub fn answer_line(out: &mut [u8], read: TxRead, audio: usize) -> usize

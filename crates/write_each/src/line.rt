@@ -1,11 +1,11 @@
 // The line of a message: what the writer answered, and every byte of the buffer that it was lent.
-use packet::Written;
 use packet::cause;
 use packet::number;
 use words::put;
 use words::put_byte;
 use words::put_hex;
 use words::put_number;
+use writer::Written;
 
 pub fn put_line(out: &mut [u8], written: Written, lent: &[u8]) -> usize {
     let at = put_answer(out, written);

@@ -17,9 +17,9 @@ use packet::Rx;
 use packet::SideItem;
 use packet::SqiItem;
 use packet::Tx;
-use packet::Written;
-use packet::write_rx;
-use packet::write_tx;
+use writer::Written;
+use writer::write_rx;
+use writer::write_tx;
 
 pub fn write(record: &[u8], audio: &[u8], lent: &mut [u8]) -> Written {
     let ext = number16_at(record, 1);

@@ -1,5 +1,5 @@
 use Rattle.air.proofs.AirLaws.{rules}
-use Rattle.seats.proofs.RecordLaws.{recordCases}
+use Rattle.record.proofs.RecordLaws.{recordCases}
 use borrow.Author.Needs.{needs}
 use Rattle.air.proofs.marks.mark.Statement.{statement}
 use Rattle.air.proofs.marks.mark.Tie as tie

@@ -1,5 +1,5 @@
 use Rattle.bench.specs.Hearing.{messageRefusals}
-use Rattle.bench.specs.Steps.{messageVerdict}
+use Rattle.bench.specs.Pieces.{messageVerdict}
 use borrow.Author.Needs.{needs}
 use Rattle.bench.proofs.admission.message_verdict.Statement.{statement}
 use Rattle.bench.proofs.admission.message_verdict.Tie as tie

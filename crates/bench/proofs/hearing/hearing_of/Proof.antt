@@ -1,4 +1,4 @@
-use Rattle.seats.proofs.RecordLaws.{recordCases}
+use Rattle.record.proofs.RecordLaws.{recordCases}
 use borrow.Author.Needs.{needs}
 use Rattle.bench.proofs.hearing.hearing_of.Statement.{statement}
 use Rattle.bench.proofs.hearing.hearing_of.Tie as tie

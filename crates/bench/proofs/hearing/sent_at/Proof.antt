@@ -3,7 +3,7 @@ use mathlib.Core.Path.{_≡_, ap}
 use native.Mathlib.Omega.{arith}
 use lib.ListN.{length}
 use Rattle.packet.specs.Packet.{payloadAt}
-use Rattle.packet.proofs.Passed.{payload-length}
+use Rattle.reader.proofs.Passed.{payload-length}
 use borrow.Author.Needs.{needs}
 use Rattle.bench.proofs.hearing.sent_at.Statement.{statement}
 use Rattle.bench.proofs.hearing.sent_at.Tie as tie

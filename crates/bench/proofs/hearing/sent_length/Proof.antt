@@ -1,7 +1,7 @@
 use mathlib.Core.Path.{ap}
 use native.Mathlib.Omega.{arith}
 use lib.ListN.{length}
-use Rattle.packet.proofs.Passed.{payload-length}
+use Rattle.reader.proofs.Passed.{payload-length}
 use borrow.Author.Needs.{needs}
 use Rattle.bench.proofs.hearing.sent_length.Statement.{statement}
 use Rattle.bench.proofs.hearing.sent_length.Tie as tie

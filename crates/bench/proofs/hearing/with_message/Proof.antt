@@ -1,7 +1,7 @@
 use mathlib.Core.Path.{ap, _∙_}
 use Rattle.bench.specs.Hearing.{heardBench}
-use Rattle.bench.specs.Steps.{messageVerdict}
-use Rattle.seats.specs.declared.record.Seat.{Seat}
+use Rattle.bench.specs.Pieces.{messageVerdict}
+use Rattle.record.specs.declared.seat.Seat.{Seat}
 use Rattle.bench.proofs.PacketSteps.{turned, message-refused, message-accepted}
 use borrow.Author.Needs.{needs}
 use Rattle.bench.proofs.hearing.with_message.Statement.{statement}

@@ -1,5 +1,5 @@
 use Rattle.bench.specs.Hearing.{heardSeat}
-use Rattle.seats.proofs.RecordLaws.{recordCases}
+use Rattle.record.proofs.RecordLaws.{recordCases}
 use borrow.Author.Needs.{needs}
 use Rattle.bench.proofs.memory.heard_seat.Statement.{statement}
 use Rattle.bench.proofs.memory.heard_seat.Tie as tie

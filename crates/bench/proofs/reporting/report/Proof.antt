@@ -2,7 +2,7 @@ use Prim.Native.Nat.{ℕ}
 use mathlib.Core.Path.{ap, sym, _∙_}
 use lib.ListN.{length}
 use Rattle.packet.specs.Refusals.{Answer}
-use Rattle.seats.specs.Record.{settled}
+use Rattle.record.specs.Record.{settled}
 use Rattle.bench.specs.Reporting.{reportedBench}
 use Rattle.bench.proofs.ReportLaws.{report-passed, report-refused, report-written, buffer-kept, buffer-written}
 use borrow.Author.Needs.{needs}

@@ -2,7 +2,7 @@ use mathlib.Core.Path.{_≡_}
 use mir.Val.{toZ, ofZ}
 use mir.Syntax.{w16}
 use Rattle.bench.specs.Reporting.{reportOf}
-use Rattle.seats.proofs.RecordLaws.{recordCases}
+use Rattle.record.proofs.RecordLaws.{recordCases}
 use borrow.Author.Needs.{needs}
 use Rattle.bench.proofs.reporting.report_of.Statement.{statement}
 use Rattle.bench.proofs.reporting.report_of.Tie as tie

@@ -1,6 +1,6 @@
-use Rattle.seats.specs.Record.{withSequence}
+use Rattle.record.specs.Record.{withSequence}
 use Rattle.bench.specs.Reporting.{reportedBench}
-use Rattle.seats.proofs.RecordLaws.{recordCases}
+use Rattle.record.proofs.RecordLaws.{recordCases}
 use borrow.Author.Needs.{needs}
 use Rattle.bench.proofs.reporting.reported_bench.Statement.{statement}
 use Rattle.bench.proofs.reporting.reported_bench.Tie as tie

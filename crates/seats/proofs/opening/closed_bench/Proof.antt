@@ -1,5 +1,5 @@
 use Rattle.seats.specs.Opening.{closedBench}
-use Rattle.seats.specs.Record.{withSeats, withSeat}
+use Rattle.record.specs.Record.{withSeats, withSeat}
 use Rattle.seats.proofs.OpeningLaws.{openingCases}
 use Rattle.seats.proofs.opening.closed_bench.Statement.{statement}
 use Rattle.seats.proofs.opening.closed_bench.Tie as tie

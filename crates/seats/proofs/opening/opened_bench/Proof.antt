@@ -1,5 +1,5 @@
 use Rattle.seats.specs.Opening.{openedBench}
-use Rattle.seats.specs.Record.{withSeats, withSeat, withSequence}
+use Rattle.record.specs.Record.{withSeats, withSeat, withSequence}
 use Rattle.seats.proofs.OpeningLaws.{openingCases}
 use Rattle.seats.proofs.opening.opened_bench.Statement.{statement}
 use Rattle.seats.proofs.opening.opened_bench.Tie as tie

@@ -1,4 +1,4 @@
-use Rattle.seats.specs.Record.{withSeats}
+use Rattle.record.specs.Record.{withSeats}
 use Rattle.seats.specs.Ticking.{tickedBench}
 use Rattle.seats.proofs.TickingLaws.{tickingCases}
 use Rattle.seats.proofs.ticking.ticked_bench.Statement.{statement}

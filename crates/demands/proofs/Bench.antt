@@ -1,0 +1,7 @@
+-- What the bench keeps through every call, and what one call does to one seat. In the order in which they build on each other.
+pub mod Runs
+pub mod SeatAfter
+pub mod Order
+pub mod KeptSeats
+pub mod Kept
+pub mod KeptLaws

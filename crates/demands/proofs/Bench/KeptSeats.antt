@@ -1,0 +1,215 @@
+-- A seat keeps what Kept says of it: closed, just opened, a packet later, a tick later.
+use Prim.Native.Nat.{ℕ, _+_, _*_, _≤_, _<_}
+use mathlib.Core.Path.{_≡_, refl, ap, sym}
+use mathlib.Core.Bool.{Bool, true, false, not, _&&_, _||_}
+use mathlib.Core.List.{List}
+use mathlib.Core.Logic.{_⊎_, inl, inr}
+use native.Mathlib.Omega.{arith}
+use native.Mathlib.Nat.{mod-lt, mul-pos}
+use lib.Dec.{eqb}
+use borrow.Author.Tests.{eqb-true, eq-eqb, ne-eqb, not-false}
+use Rattle.base.specs.Bytes.{Bytes}
+use Rattle.base.proofs.Truths.{and-right, and-rest, or-left, or-right, or-rest}
+use Rattle.base.proofs.Numbers.{number16-small}
+use Rattle.reader.specs.Reading.{messageOf, messageWith}
+use Rattle.packet.specs.declared.message.ClimaxItem.{ClimaxItem}
+use Rattle.packet.specs.declared.message.ClimaxItem.the-variants as climax
+use Rattle.packet.specs.declared.message.SideItem.{SideItem}
+use Rattle.packet.specs.declared.message.SideItem.the-variants as side
+use Rattle.packet.specs.declared.message.Tx.{Tx}
+use Rattle.record.specs.Record.{zeroField, closedSeat, openedSeat, seatOf, lesson}
+use Rattle.seats.specs.Opening.{callCode, isTxRx, isCoupling, ownId}
+use Rattle.seats.specs.Ticking.{phaseAfter, aged, tickedSeat}
+use Rattle.bench.specs.Hearing.{hasDelay, delayOf, hasSide, isStandby, fieldHeard, keyingBarred, idAllowed, sideBarred, messageIn, heardSeat}
+use Rattle.record.specs.declared.setup.Setup.{Setup}
+use Rattle.record.specs.declared.seat.Seat.{Seat}
+use Rattle.seats.specs.declared.opening.CallType.{CallType}
+use Rattle.seats.specs.declared.opening.CallType.the-variants.{Idle, RxOnly, TxRx, Coupling}
+use Rattle.seats.specs.declared.opening.Request.{Request}
+use Rattle.demands.specs.Kept.{FieldKept, SeatKept}
+use Rattle.seats.proofs.TickingLaws.{ticked-cases}
+use Rattle.seats.proofs.Accepted.{OpenAccepted}
+use Rattle.bench.proofs.Sides.{no-item-single, no-item-lesson}
+use Rattle.bench.proofs.Accepted.{PacketAccepted, type-known}
+
+-- ---- the last field
+
+pub zero-field-kept : (isLesson pair : Bool) (call own : ℕ) → FieldKept isLesson pair call own zeroField
+zero-field-kept isLesson pair call own =
+    record {
+      type-known = omega arith;
+      may-key = λ e. cc;
+      coupling-keys = λ e. absurd (omega arith);
+      lesson-only-tests = λ e. refl;
+      own-or-none = inr refl;
+      keyed-own = λ e. cc;
+      no-item-single = λ e. refl;
+      no-item-lesson = λ e. refl;
+      no-delay = λ e. refl;
+      no-side = λ e. refl;
+    }
+
+no-delay : (item : ClimaxItem) → hasDelay item ≡ false → delayOf item ≡ 0
+no-delay climax.Absent e = refl
+no-delay (climax.Is v) e = cc
+
+no-side : (item : SideItem) → hasSide item ≡ false → isStandby item ≡ false
+no-side side.Absent e = refl
+no-side side.Main e = refl
+no-side side.Standby e = e
+
+-- 21 to 23 not met, over their tests
+tests-only : (isLesson off test : Bool) → isLesson && not off && not test ≡ false → isLesson ≡ true → off || test ≡ true
+tests-only true true test e h = refl
+tests-only true false test e h = not-false test e
+tests-only false off test e h = cc
+
+own-or-off : (own off none : Bool) → own || (not (not off) && none) ≡ true → off ≡ false → own ≡ true
+own-or-off true off none e h = refl
+own-or-off false true none e h = sym h
+own-or-off false false none e h = e
+
+module _ (isLesson pair : Bool) (call own : ℕ) (m : Tx) where
+  heard-field-kept : m .ptt ≤ 5 → keyingBarred isLesson call m ≡ false → idAllowed own m ≡ true → sideBarred isLesson pair m ≡ false
+      → FieldKept isLesson pair call own (fieldHeard m)
+  unfolding keyingBarred idAllowed fieldHeard
+  heard-field-kept small barred allowed sided =
+      let off = eqb (m .ptt) 0 in
+      let keys = isTxRx call || isCoupling call in
+      let alone = eqb (m .ptt) 2 && isTxRx call in
+      let lessons = isLesson && not off && not (eqb (m .ptt) 5) in
+      let first = or-left (not off && not keys || alone) lessons barred in
+      let on-keys : off ≡ false → keys ≡ true = λ e. not-false keys (and-rest (not off) (not keys) (or-left (not off && not keys) alone first) (ap not e)) in
+      let not-txrx : eqb (m .ptt) 2 ≡ true → isTxRx call ≡ false = and-rest (eqb (m .ptt) 2) (isTxRx call) (or-right (not off && not keys) alone first) in
+      record {
+        type-known = small;
+        may-key = on-keys;
+        coupling-keys = λ e. or-rest (isTxRx call) (isCoupling call) (on-keys (ap (λ (k : ℕ). eqb k 0) e)) (not-txrx (eq-eqb (m .ptt) 2 e));
+        lesson-only-tests = tests-only isLesson off (eqb (m .ptt) 5) (or-right (not off && not keys || alone) lessons barred);
+        own-or-none = by-id (eqb (m .id) own) refl;
+        keyed-own = λ e. eqb-true (m .id) own (own-or-off (eqb (m .id) own) off (eqb (m .id) 0) allowed e);
+        no-item-single = no-item-single isLesson pair m sided;
+        no-item-lesson = no-item-lesson isLesson pair m sided;
+        no-delay = no-delay (m .climax);
+        no-side = no-side (m .side);
+      }
+    where
+      by-id : (t : Bool) → eqb (m .id) own ≡ t → (m .id ≡ own) ⊎ (m .id ≡ 0)
+      by-id true e = inl (eqb-true (m .id) own e)
+      by-id false e =
+          let off = eqb (m .ptt) 0 in
+          inr (eqb-true (m .id) 0 (and-right (not (not off)) (eqb (m .id) 0) (or-rest (eqb (m .id) own) (not (not off) && eqb (m .id) 0) allowed e)))
+
+-- ---- the seat
+
+pub closed-seat-kept : (setup : Setup) (n : ℕ) → SeatKept setup n closedSeat
+closed-seat-kept setup n =
+    record {
+      closed = λ e. refl;
+      times = λ e. absurd (let z : _≡_ {A = ℕ} 0 1 = cc in omega arith);
+      call-known = omega arith;
+      lesson-not-coupling = λ e. refl;
+      nothing-yet = λ e. refl;
+      field-kept = zero-field-kept (lesson setup n) (setup .pair) 0 0;
+      sequence-fits = omega arith;
+      heard-ssrc-fits = omega arith;
+      ssrc-fits = omega arith;
+    }
+
+call-code-known : (call : CallType) → callCode call ≤ 3
+call-code-known Idle = omega arith
+call-code-known RxOnly = omega arith
+call-code-known TxRx = omega arith
+call-code-known Coupling = omega arith
+
+some-time : (period multiplier : ℕ) → 20 ≤ period → 2 ≤ multiplier → 1 ≤ period * multiplier
+some-time period multiplier h k =
+    let some-period : 0 < period = omega arith in
+    let some-multiplier : 0 < multiplier = omega arith in
+    mul-pos some-period some-multiplier
+
+phase-after-below : (ms period phase : ℕ) → 1 ≤ period → phaseAfter ms period phase < period
+phase-after-below ms period phase h = rw (ne-eqb period 0 (λ e. omega arith)) (mod-lt (phase + ms) h)
+
+module _ (setup : Setup) (n : ℕ) (seats : List Seat) where
+  pub opened-seat-kept : (r : Request) → OpenAccepted setup n seats r → r .ssrc < 4294967296
+      → SeatKept setup n (openedSeat (callCode (r .call)) (r .period) (r .multiplier) (r .ssrc))
+  unfolding openedSeat
+  opened-seat-kept r passed fits =
+      record {
+        closed = λ e. absurd (let z : _≡_ {A = ℕ} 0 1 = cc in omega arith);
+        times = λ e.
+            record {
+              period-least = passed .period-least;
+              period-most = passed .period-most;
+              multiplier-least = passed .multiplier-least;
+              multiplier-most = passed .multiplier-most;
+              some-left = some-time (r .period) (r .multiplier) (passed .period-least) (passed .multiplier-least);
+              left-most = omega arith;
+              phase-below = omega arith;
+            };
+        call-known = call-code-known (r .call);
+        lesson-not-coupling = passed .lesson-not-coupling;
+        nothing-yet = λ e. refl;
+        field-kept = zero-field-kept (lesson setup n) (setup .pair) (callCode (r .call)) (ownId n (callCode (r .call)));
+        sequence-fits = omega arith;
+        heard-ssrc-fits = omega arith;
+        ssrc-fits = fits;
+      }
+
+  pub heard-seat-kept : (p : List ℕ) → PacketAccepted setup n seats p → Bytes p → SeatKept setup n (seatOf seats n)
+      → SeatKept setup n (heardSeat (seatOf seats n) (messageIn p))
+  unfolding heardSeat messageOf messageWith
+  heard-seat-kept p passed small kept =
+      let s = seatOf seats n in
+      record {
+        closed = λ e. absurd (let z : _≡_ {A = ℕ} 0 1 = cc in omega arith);
+        times = λ e.
+            let old = kept .times e in
+            record {
+              period-least = old .period-least;
+              period-most = old .period-most;
+              multiplier-least = old .multiplier-least;
+              multiplier-most = old .multiplier-most;
+              some-left = some-time (s .period) (s .multiplier) (old .period-least) (old .multiplier-least);
+              left-most = omega arith;
+              phase-below = old .phase-below;
+            };
+        call-known = kept .call-known;
+        lesson-not-coupling = kept .lesson-not-coupling;
+        nothing-yet = λ e. cc;
+        field-kept = heard-field-kept (lesson setup n) (setup .pair) (s .call) (ownId n (s .call)) (messageIn p)
+            (type-known (setup .ext) p (passed .was-read)) (passed .may-key) (passed .id-allowed) (passed .may-ask-side);
+        sequence-fits = number16-small p small 2;
+        heard-ssrc-fits = omega (arith, number16-small p small 8, number16-small p small 10);
+        ssrc-fits = kept .ssrc-fits;
+      }
+
+aged-seat-kept : (setup : Setup) (n ms : ℕ) (s : Seat) → s .opened ≡ true → ms < s .left → SeatKept setup n s → SeatKept setup n (aged ms s)
+aged-seat-kept setup n ms s is-open younger kept =
+    let old = kept .times is-open in
+    let some-period : 1 ≤ s .period = omega (arith, old .period-least) in
+    record {
+      closed = λ e. absurd (let z : _≡_ {A = ℕ} 0 1 = cc in omega arith);
+      times = λ e.
+          record {
+            period-least = old .period-least;
+            period-most = old .period-most;
+            multiplier-least = old .multiplier-least;
+            multiplier-most = old .multiplier-most;
+            some-left = omega arith;
+            left-most = omega (arith, old .left-most);
+            phase-below = phase-after-below ms (s .period) (s .phase) some-period;
+          };
+      call-known = kept .call-known;
+      lesson-not-coupling = kept .lesson-not-coupling;
+      nothing-yet = kept .nothing-yet;
+      field-kept = kept .field-kept;
+      sequence-fits = kept .sequence-fits;
+      heard-ssrc-fits = kept .heard-ssrc-fits;
+      ssrc-fits = kept .ssrc-fits;
+    }
+
+pub ticked-seat-kept : (setup : Setup) (n ms : ℕ) (s : Seat) → SeatKept setup n s → SeatKept setup n (tickedSeat ms s)
+ticked-seat-kept setup n ms s kept =
+    ticked-cases (SeatKept setup n) ms s (closed-seat-kept setup n) (λ is-open younger. aged-seat-kept setup n ms s is-open younger kept) kept

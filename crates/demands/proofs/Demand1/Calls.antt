@@ -1,0 +1,72 @@
+-- Every call in one form: a list of refusals, what it tells, and what it makes of the bench.
+use mathlib.Core.Path.{_≡_, refl, sym, ap, subst, _∙_}
+use mathlib.Core.List.{List}
+use Rattle.packet.specs.Refusals.{Case, NoCase, Answer, judged}
+use Rattle.record.specs.Record.{settled}
+use Rattle.seats.specs.Opening.{ownId, callCode, openSaid, openedBench, closeSaid, closedBench}
+use Rattle.seats.specs.Ticking.{tickSaid, tickSets, tickedBench}
+use Rattle.seats.specs.Radio.{receivedBench, transmitterBench, sidedBench, sideSaid}
+use Rattle.bench.specs.Hearing.{packetSaid, hearing, heardBench, messageIn}
+use Rattle.bench.specs.Reporting.{reportSaid, reportBytes, reportedBench}
+use Rattle.bench.specs.Step.{Call, opening, closing, packet, tick, report, received, transmitter, side, Said, done, own, ticked, written, told, step}
+use Rattle.record.specs.declared.bench.Bench.{Bench}
+use Rattle.demands.specs.ExactCalls.{refusalsOf}
+use Rattle.packet.proofs.Judged.{judged-both, judged-one, judged-mapped, accepts}
+
+-- what a call tells where no case of its list holds
+abbrev pub saidBy : Bench → Call → Said
+saidBy b (opening n r) = own (ownId n (callCode (r .call)))
+saidBy b (closing n) = done
+saidBy b (packet n p) = told (packetSaid b n p) p (hearing b n p)
+saidBy b (tick ms) = ticked (tickSets b ms .closed) (tickSets b ms .due)
+saidBy b (report n timestamp sound room) = written (reportBytes b n timestamp sound)
+saidBy b (received signals level) = done
+saidBy b (transmitter healthy) = done
+saidBy b (side standby) = done
+
+-- what it then makes of the bench
+abbrev pub benchAfter : Bench → Call → Bench
+benchAfter b (opening n r) = openedBench b n r
+benchAfter b (closing n) = closedBench b n
+benchAfter b (packet n p) = heardBench b n (messageIn p)
+benchAfter b (tick ms) = tickedBench b ms
+benchAfter b (report n timestamp sound room) = reportedBench b n
+benchAfter b (received signals level) = receivedBench b signals level
+benchAfter b (transmitter healthy) = transmitterBench b healthy
+benchAfter b (side standby) = sidedBench b standby
+
+-- the value does not matter for whether the bench moves
+settled-judged : {A B : Type 0} (cs : List Case) (a : A) (b : B) (before after : Bench)
+    → settled (judged cs a) before after ≡ settled (judged cs b) before after
+settled-judged cs a b before after = judged-both (λ x y. settled x before after ≡ settled y before after) cs a b (λ n c. refl) (λ none. refl)
+
+pub step-answer : (b : Bench) (c : Call) → step b c .answer ≡ judged (refusalsOf b c) (saidBy b c)
+unfolding step openSaid closeSaid packetSaid tickSaid reportSaid sideSaid
+step-answer b (opening n r) = judged-mapped own (refusalsOf b (opening n r)) (ownId n (callCode (r .call)))
+step-answer b (closing n) = judged-mapped (λ u. done) (refusalsOf b (closing n)) tt
+step-answer b (packet n p) = judged-mapped (told (packetSaid b n p) p) (refusalsOf b (packet n p)) (hearing b n p)
+step-answer b (tick ms) = judged-mapped (λ u. ticked (tickSets b ms .closed) (tickSets b ms .due)) (refusalsOf b (tick ms)) tt
+step-answer b (report n timestamp sound room) =
+    judged-mapped (λ k. written (reportBytes b n timestamp sound)) (refusalsOf b (report n timestamp sound room)) _
+step-answer b (received signals level) = refl
+step-answer b (transmitter healthy) = refl
+step-answer b (side standby) = judged-mapped (λ u. done) (refusalsOf b (side standby)) tt
+
+pub step-bench : (b : Bench) (c : Call) → step b c .bench ≡ settled (judged (refusalsOf b c) (saidBy b c)) b (benchAfter b c)
+unfolding step openSaid closeSaid packetSaid tickSaid reportSaid sideSaid
+step-bench b (opening n r) = settled-judged (refusalsOf b (opening n r)) _ _ b _
+step-bench b (closing n) = settled-judged (refusalsOf b (closing n)) _ _ b _
+step-bench b (packet n p) = settled-judged (refusalsOf b (packet n p)) _ _ b _
+step-bench b (tick ms) = settled-judged (refusalsOf b (tick ms)) _ _ b _
+step-bench b (report n timestamp sound room) = settled-judged (refusalsOf b (report n timestamp sound room)) _ _ b _
+step-bench b (received signals level) = refl
+step-bench b (transmitter healthy) = refl
+step-bench b (side standby) = settled-judged (refusalsOf b (side standby)) _ _ b _
+
+-- what holds of the bench, and of what the call makes of it where it is accepted, holds after the call
+pub after-call : (P : Bench → Type 0) (b : Bench) (c : Call) → P b → (NoCase (refusalsOf b c) → P (benchAfter b c)) → P (step b c .bench)
+after-call P b c old new =
+    subst P (sym (step-bench b c)) (judged-one (λ a. P (settled a b (benchAfter b c))) (refusalsOf b c) (saidBy b c) (λ n k. old) new)
+
+pub accepted-bench : (b : Bench) (c : Call) → NoCase (refusalsOf b c) → step b c .bench ≡ benchAfter b c
+accepted-bench b c none = step-bench b c ∙ ap (λ (a : Answer Said). settled a b (benchAfter b c)) (accepts (saidBy b c) (refusalsOf b c) none)

@@ -1,0 +1,37 @@
+-- Each refusal in exactly its case.
+use Prim.Native.Nat.{ℕ}
+use mathlib.Core.Path.{_≡_, refl, ap}
+use mathlib.Core.Bool.{Bool, true, false, cond}
+use mathlib.Core.List.{List, [], _∷_}
+use mathlib.Core.Logic.{inl, inr}
+use Rattle.packet.specs.Refusals.{Case, FirstCase, refused, causeOf, judged}
+use Rattle.reader.specs.Reading.{readerRefusals, messageOf, read, readTx, readRx, asTx, asRx}
+use Rattle.packet.specs.declared.message.Direction.the-variants as direction
+use Rattle.packet.proofs.Judged.{never, judged-mapped, accepts, meets-none}
+use Rattle.demands.specs.Exact.{Exact, ReadersExact}
+
+module _ {A : Type 0} (a : A) where
+  refuses : (cs : List Case) (n : ℕ) → FirstCase n cs → judged cs a ≡ refused n (causeOf n)
+  refuses [] n f = absurd f
+  refuses (c ∷ cs) n (inl h) = simp (h .0, h .1)
+  refuses (c ∷ cs) n (inr h) = simp (h .0) (refuses cs n (h .1))
+
+  only-then : (cs : List Case) (n k : ℕ) → judged cs a ≡ refused n k → FirstCase n cs × (k ≡ causeOf n)
+  only-then [] n k e = absurd (never a n k e)
+  only-then (c ∷ cs) n k e = by-case (c .holds) refl e (λ q. only-then cs n k q)
+    where
+      by-case : (t : Bool) → c .holds ≡ t → cond t (refused (c .number) (causeOf (c .number))) (judged cs a) ≡ refused n k
+          → (judged cs a ≡ refused n k → FirstCase n cs × (k ≡ causeOf n)) → FirstCase n (c ∷ cs) × (k ≡ causeOf n)
+      by-case true p q later = let m : c .number ≡ n = cc in (inl (p, m), cc (ap causeOf m))
+      by-case false p q later = (inr (p, later q .0), later q .1)
+
+  pub exact-judged : (cs : List Case) → Exact cs (judged cs a)
+  exact-judged cs =
+      record { refuses = refuses cs; only-then = only-then cs; accepts = λ h. (a, accepts a cs h); meets-none = λ b e. meets-none cs a b e .0 }
+
+pub readers-exact : ReadersExact
+unfolding read readTx readRx
+readers-exact = record {
+  of-tx = λ ext p. rw (judged-mapped asTx (readerRefusals direction.Tx ext p) (messageOf p)) (exact-judged (asTx (messageOf p)) (readerRefusals direction.Tx ext p));
+  of-rx = λ ext p. rw (judged-mapped asRx (readerRefusals direction.Rx ext p) (messageOf p)) (exact-judged (asRx (messageOf p)) (readerRefusals direction.Rx ext p));
+}

@@ -1,0 +1,130 @@
+-- Demand 3 alone would let pass a bench that handles a seat's first packet and then only nods: it runs as the true one does
+-- without the packets that it nods at, and lesson seats do not move which of the live ones these are.
+use Prim.Native.Nat.{ℕ}
+use mathlib.Core.Path.{_≡_, refl, sym, ap, _∙_}
+use mathlib.Core.Bool.{Bool, true, false, cond}
+use mathlib.Core.List.{List, [], _∷_}
+use Rattle.base.proofs.Truths.{either-way}
+use Rattle.packet.specs.Refusals.{accepted}
+use Rattle.record.specs.Record.{seatNumbers, lesson, freshBench}
+use Rattle.bench.specs.Step.{Call, opening, closing, packet, tick, report, received, transmitter, side, heard, step, after}
+use Rattle.record.specs.declared.setup.Setup.{Setup}
+use Rattle.record.specs.declared.seat.Seat.{Seat}
+use Rattle.record.specs.declared.bench.Bench.{Bench}
+use Rattle.demands.specs.Apart.{named, withoutLessons, liveAboveTest, fixed, compared}
+use Rattle.demands.specs.WrongBenches.{nodding, isLater, nod, wrong, afterBy, ApartAlone}
+use Rattle.demands.proofs.Demand3.WithoutLessons.{low, seat-low}
+use Rattle.demands.proofs.Bench.SeatAfter.{setup-kept}
+use Rattle.demands.proofs.Demand3.LessonSeats.{Held, held-step, held-fresh}
+use Rattle.demands.proofs.Demand3.LessonCalls.{unseen}
+use Rattle.demands.proofs.Demand3.Apart.{ran, matched, its-lesson, low-alike, lessons-apart}
+
+-- a run without the packets that are nodded at
+unfoldable handled : Bench → List Call → List Call
+handled b [] = []
+handled b (c ∷ cs) = cond (isLater b c) (handled b cs) (c ∷ handled (step b c .bench) cs)
+
+after-handled : (b : Bench) (cs : List Call) → afterBy (wrong nodding) b cs ≡ after b (handled b cs)
+unfolding afterBy after handled
+after-handled b [] = refl
+after-handled b (c ∷ cs) = by-call (isLater b c) (after-handled b cs) (after-handled (step b c .bench) cs)
+  where
+    by-call : (t : Bool) → afterBy (wrong nodding) b cs ≡ after b (handled b cs)
+        → afterBy (wrong nodding) (step b c .bench) cs ≡ after (step b c .bench) (handled (step b c .bench) cs)
+        → afterBy (wrong nodding) (cond t (nod b) (step b c) .bench) cs ≡ after b (cond t (handled b cs) (c ∷ handled (step b c .bench) cs))
+    by-call true nodded stepped = nodded
+    by-call false nodded stepped = stepped
+
+later-low : (b : Bench) (c : Call) → lesson (b .setup) (named c) ≡ false → isLater (low b) c ≡ isLater b c
+unfolding named
+later-low b (packet n p) live = ap (λ (s : Seat). s .heard .any) (seat-low b n live)
+later-low b (opening n r) live = refl
+later-low b (closing n) live = refl
+later-low b (tick ms) live = refl
+later-low b (report n timestamp sound room) live = refl
+later-low b (received signals level) live = refl
+later-low b (transmitter healthy) live = refl
+later-low b (side standby) live = refl
+
+handled-low : (setup : Setup) (b : Bench) (cs : List Call) → b .setup ≡ setup → Held b
+    → withoutLessons setup (handled b cs) ≡ handled (low b) (withoutLessons setup cs)
+unfolding withoutLessons handled
+handled-low setup b [] e i = refl
+handled-low setup b (c ∷ cs) e i =
+    by-seat (lesson setup (named c)) (isLater b c) refl refl (handled-low setup b cs e i)
+    (handled-low setup (step b c .bench) cs (setup-kept b c ∙ e) (held-step b c i))
+  where
+    here : (t : Bool) → lesson setup (named c) ≡ t → lesson (b .setup) (named c) ≡ t
+    here t q = ap (λ (s : Setup). lesson s (named c)) e ∙ q
+
+    by-seat : (t later : Bool) → lesson setup (named c) ≡ t → isLater b c ≡ later
+        → withoutLessons setup (handled b cs) ≡ handled (low b) (withoutLessons setup cs)
+        → withoutLessons setup (handled (step b c .bench) cs) ≡ handled (low (step b c .bench)) (withoutLessons setup cs)
+        → withoutLessons setup (cond later (handled b cs) (c ∷ handled (step b c .bench) cs))
+        ≡ handled (low b) (cond t (withoutLessons setup cs) (c ∷ withoutLessons setup cs))
+    by-seat true true q l nodded stepped = nodded
+    by-seat true false q l nodded stepped =
+        simp q (stepped ∙ ap (λ (x : Bench). handled x (withoutLessons setup cs)) (unseen b c (here true q)))
+    by-seat false true q l nodded stepped = simp (later-low b c (here false q), l) nodded
+    by-seat false false q l nodded stepped =
+        simp (q, later-low b c (here false q), l)
+        (ap (c ∷_) (stepped ∙ ap (λ (x : Bench). handled x (withoutLessons setup cs)) (sym (matched b c i (here false q) .bench))))
+
+module _ (setup : Setup) (xs ys : List Call) (e : withoutLessons setup xs ≡ withoutLessons setup ys) where
+  abbrev handledXs : List Call
+  handledXs = handled (freshBench setup) xs
+
+  abbrev handledYs : List Call
+  handledYs = handled (freshBench setup) ys
+
+  handled-alike : withoutLessons setup handledXs ≡ withoutLessons setup handledYs
+  unfolding freshBench
+  handled-alike =
+      handled-low setup (freshBench setup) xs refl (held-fresh setup)
+      ∙ ap (handled (low (freshBench setup))) e
+      ∙ sym (handled-low setup (freshBench setup) ys refl (held-fresh setup))
+
+  low-same : low (ran setup handledXs) ≡ low (ran setup handledYs)
+  low-same = low-alike setup handledXs handledYs handled-alike
+
+  later-same : (c : Call) → lesson setup (named c) ≡ false → isLater (ran setup handledXs) c ≡ isLater (ran setup handledYs) c
+  later-same c live =
+      sym (later-low (ran setup handledXs) c (its-lesson setup handledXs (named c) live))
+      ∙ ap (λ (b : Bench). isLater b c) low-same
+      ∙ later-low (ran setup handledYs) c (its-lesson setup handledYs (named c) live)
+
+  standby-same : ran setup handledXs .standby ≡ ran setup handledYs .standby
+  unfolding low
+  standby-same = ap (λ (b : Bench). b .standby) low-same
+
+  -- a nod is the same in all that is compared
+  nods-same : (c : Call) → compared setup c (nod (ran setup handledXs)) ≡ compared setup c (nod (ran setup handledYs))
+  unfolding compared fixed
+  nods-same c = simp (either-way, standby-same)
+
+  same : (c : Call) → lesson setup (named c) ≡ false
+      → compared setup c (wrong nodding (ran setup handledXs) c) ≡ compared setup c (wrong nodding (ran setup handledYs) c)
+  same c live = simp (later-same c live) (by-call (isLater (ran setup handledYs) c))
+    where
+      by-call : (t : Bool) → compared setup c (cond t (nod (ran setup handledXs)) (step (ran setup handledXs) c))
+          ≡ compared setup c (cond t (nod (ran setup handledYs)) (step (ran setup handledYs) c))
+      by-call true = nods-same c
+      by-call false = lessons-apart setup handledXs handledYs handled-alike .same c live
+
+  silent : (n : ℕ) (p : List ℕ) → lesson setup n ≡ true → liveAboveTest (wrong nodding (ran setup handledXs) (packet n p) .bench) seatNumbers ≡ true
+      → (missing : ℕ) (reply standby : Bool) (sound : List ℕ)
+      → wrong nodding (ran setup handledXs) (packet n p) .answer ≡ accepted (heard missing reply standby sound) → sound ≡ []
+  silent n p hidden up missing reply standby sound said = by-call (isLater (ran setup handledXs) (packet n p)) up said
+    where
+      by-call : (t : Bool) → liveAboveTest (cond t (nod (ran setup handledXs)) (step (ran setup handledXs) (packet n p)) .bench) seatNumbers ≡ true
+          → cond t (nod (ran setup handledXs)) (step (ran setup handledXs) (packet n p)) .answer ≡ accepted (heard missing reply standby sound) → sound ≡ []
+      by-call true u q = cc
+      by-call false u q = lessons-apart setup handledXs handledYs handled-alike .silent n p hidden u missing reply standby sound q
+
+pub nodding-apart : ApartAlone (wrong nodding)
+nodding-apart setup xs ys e = rw (after-handled (freshBench setup) xs, after-handled (freshBench setup) ys)
+    (record {
+      together = lessons-apart setup (handledXs setup xs ys e) (handledYs setup xs ys e) (handled-alike setup xs ys e) .together;
+      same = same setup xs ys e;
+      silent = silent setup xs ys e;
+    })

@@ -1,0 +1,141 @@
+-- What the writer puts together for a message that it accepts, part by part.
+use Prim.Native.Nat.{ℕ, _+_, _*_, _-_, _<_, _≤_}
+use mathlib.Core.Path.{_≡_, refl, ap, _∙_}
+use mathlib.Core.Bool.{Bool, true, false, cond, _&&_, _||_}
+use mathlib.Core.List.{List, _++_}
+use native.Mathlib.Omega.{arith}
+use lib.ListN.{length, take, drop, replicate, length-append, length-replicate}
+use lib.Seq.{take-at}
+use lib.Dec.{leb, eqb}
+use borrow.Author.Tests.{leb-true, le-leb, not-false}
+use Rattle.base.specs.Bytes.{isSet, bit}
+use Rattle.packet.specs.Packet.{audioLength, payloadAllowed, fieldAllowed}
+use Rattle.packet.specs.Items.{Item, someItem}
+use Rattle.packet.specs.Refusals.{Answer}
+use Rattle.writer.specs.Writing.{risingItems, itemBytes, fewestWords, fieldOf, wordsOf, kindFor, headOf, encode, sqiWritable, climaxWritable, writable, writerRefusals, write, filled, buffered}
+use Rattle.packet.specs.declared.message.Direction.the-variants.{Tx, Rx}
+use Rattle.packet.specs.declared.message.Message.{Message}
+use Rattle.demands.specs.RoundTrip.{Narrow, WrittenAtFront}
+use Rattle.demands.proofs.Demand2.Numbers.{FieldSays, field-says}
+use Rattle.base.proofs.Truths.{and-left, and-right}
+use Rattle.packet.proofs.Judged.{meets-none}
+use Rattle.writer.proofs.Words.{item-bytes-length, at-most-three}
+use Rattle.demands.proofs.Demand2.Parts.{HasParts, has-parts}
+
+pub record Writable (m : Message) (n : ℕ) : Type 0 where
+  pub ptt : m .ptt ≤ 5
+  pub id : m .id ≤ 63
+  pub sqi : sqiWritable (m .items .sqi) ≡ true
+  pub climax : climaxWritable (m .items .climax) ≡ true
+  pub sound : (eqb n 0 || audioLength n) ≡ true
+
+pub writable-is : (m : Message) (n : ℕ) → writable m n ≡ true → Writable m n
+unfolding writable
+writable-is m n e =
+    let a = and-left (leb (m .ptt) 5 && leb (m .id) 63 && sqiWritable (m .items .sqi) && climaxWritable (m .items .climax)) _ e in
+    let b = and-left (leb (m .ptt) 5 && leb (m .id) 63 && sqiWritable (m .items .sqi)) _ a in
+    let c = and-left (leb (m .ptt) 5 && leb (m .id) 63) _ b in
+    record {
+      ptt = leb-true (m .ptt) 5 (and-left (leb (m .ptt) 5) _ c);
+      id = leb-true (m .id) 63 (and-right (leb (m .ptt) 5) _ c);
+      sqi = and-right (leb (m .ptt) 5 && leb (m .id) 63) _ b;
+      climax = and-right (leb (m .ptt) 5 && leb (m .id) 63 && sqiWritable (m .items .sqi)) _ a;
+      sound = and-right (leb (m .ptt) 5 && leb (m .id) 63 && sqiWritable (m .items .sqi) && climaxWritable (m .items .climax)) _ e;
+    }
+
+-- ---- the field
+
+bit-least : (b : Bool) → bit b ≤ 1
+bit-least true = omega arith
+bit-least false = omega arith
+
+pub bit-set : (b : Bool) → isSet (bit b) ≡ b
+bit-set true = refl
+bit-set false = refl
+
+-- what is written as the field
+abbrev pub SaysOf : ℕ → Message → List Item → Type 0
+SaysOf f m is = FieldSays f (m .ptt) (bit (m .squ)) (m .id) (bit (m .pm)) (bit (m .ptts)) (bit (m .sct)) (bit (someItem is))
+
+pub field-written : (m : Message) (is : List Item) → m .ptt ≤ 5 → m .id ≤ 63 → SaysOf (fieldOf m is) m is
+field-written m is hp hi =
+    field-says (m .ptt) (bit (m .squ)) (m .id) (bit (m .pm)) (bit (m .ptts)) (bit (m .sct)) (bit (someItem is))
+    hp (bit-least (m .squ)) hi (bit-least (m .pm)) (bit-least (m .ptts)) (bit-least (m .sct)) (bit-least (someItem is))
+
+pub allowed-in-tx : (f : ℕ) (m : Message) (is : List Item) → SaysOf f m is → m .ptt ≤ 5 → m .squ ≡ false → m .sct ≡ false
+    → fieldAllowed Tx f ≡ true
+unfolding fieldAllowed
+allowed-in-tx f m is h hp q s = simp (h .ptt-is, le-leb (m .ptt) 5 hp, h .squ-is, q, h .tx-reserved (ap bit s))
+
+pub allowed-in-rx : (f : ℕ) (m : Message) (is : List Item) → SaysOf f m is → m .ptt ≤ 5 → fieldAllowed Rx f ≡ true
+unfolding fieldAllowed
+allowed-in-rx f m is h hp = simp (h .ptt-is, le-leb (m .ptt) 5 hp, h .rx-reserved)
+
+-- ---- the kind
+
+pub kind-allowed : (n : ℕ) → (eqb (kindFor n) 8 || eqb (kindFor n) 123) ≡ true
+kind-allowed n = by-test (eqb n 0)
+  where
+    by-test : (t : Bool) → (eqb (cond t 123 8) 8 || eqb (cond t 123 8) 123) ≡ true
+    by-test true = refl
+    by-test false = refl
+
+kind-narrow : (n : ℕ) → kindFor n < 128
+kind-narrow n = by-test (eqb n 0)
+  where
+    by-test : (t : Bool) → cond t 123 8 < 128
+    by-test true = omega arith
+    by-test false = omega arith
+
+pub sound-allowed : (n : ℕ) → (eqb n 0 || audioLength n) ≡ true → payloadAllowed (kindFor n) n ≡ true
+unfolding payloadAllowed
+sound-allowed n h = by-test (eqb n 0) (audioLength n) h
+  where
+    by-test : (t a : Bool) → (t || a) ≡ true → cond (eqb (cond t 123 8) 8) a t ≡ true
+    by-test true a h = refl
+    by-test false a h = h
+
+-- ---- the words
+
+abbrev pub zerosFor : List Item → ℕ
+zerosFor is = 4 * fewestWords is - (2 + 2 * length is)
+
+abbrev pub afterFieldOf : List Item → List ℕ
+afterFieldOf is = itemBytes is ++ replicate (zerosFor is) 0
+
+words-filled : (is : List Item) → length (afterFieldOf is) + 2 ≡ 4 * fewestWords is
+words-filled is = simp (length-append, length-replicate, item-bytes-length) (omega arith)
+
+pub few-words : (is : List Item) → length is ≤ 3 → (1 ≤ fewestWords is) × (fewestWords is ≤ 15)
+few-words is h = omega arith
+
+-- ---- the packet
+
+abbrev pub itemsFor : Message → List Item
+itemsFor m = risingItems (m .items)
+
+abbrev pub fieldFor : Message → ℕ
+fieldFor m = fieldOf m (itemsFor m)
+
+-- the packet that is written has the message's parts
+abbrev pub Written : (ext : ℕ) → Message → (sound : List ℕ) → Type 0
+Written ext m sound =
+    HasParts (encode ext m sound) (kindFor (length sound)) (m .sequence) (m .timestamp) (m .ssrc) ext (fewestWords (itemsFor m)) (fieldFor m)
+    (afterFieldOf (itemsFor m)) sound
+
+pub written : (ext : ℕ) (m : Message) (sound : List ℕ) → Narrow ext m → m .ptt ≤ 5 → m .id ≤ 63 → Written ext m sound
+unfolding encode headOf wordsOf
+written ext m sound w hp hi =
+    let few = few-words (itemsFor m) (at-most-three (m .items)) in
+    has-parts (kindFor (length sound)) (m .sequence) (m .timestamp) (m .ssrc) ext (fewestWords (itemsFor m)) (fieldFor m) (afterFieldOf (itemsFor m)) sound
+    (kind-narrow (length sound)) (w .sequence) (w .timestamp) (w .ssrc) (w .extension) (omega arith) (field-written m (itemsFor m) hp hi .narrow)
+    (words-filled (itemsFor m))
+
+-- ---- the buffer
+
+pub written-at-front : WrittenAtFront
+unfolding write writerRefusals buffered
+written-at-front ext m sound buffer n e =
+    let p = encode ext m sound in
+    let met = meets-none (writerRefusals ext m sound (length buffer)) (length p) n e in
+    (not-false (writable m (length sound)) (met .0 .0), ap (λ (a : Answer ℕ). take n (filled a p buffer)) e ∙ take-at p (drop n buffer) n (met .1))

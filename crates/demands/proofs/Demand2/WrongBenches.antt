@@ -1,0 +1,229 @@
+-- The five wrong benches: where each breaks a promise, and that demand 3 alone would let it pass.
+use Prim.Native.Nat.{ℕ}
+use mathlib.Core.Path.{_≡_, refl, sym, ap, ap₂, _∙_}
+use mathlib.Core.Bool.{Bool, true, false, cond, _&&_, false≢true}
+use mathlib.Core.List.{List, [], _∷_}
+use native.Mathlib.Omega.{arith}
+use Rattle.packet.specs.Refusals.{Answer, accepted, refused, mapped}
+use Rattle.base.specs.Order.{centred, distance, late, missing}
+use Rattle.packet.specs.Packet.{payload, payloadAllowed, fieldAllowed, afterField, off, normal}
+use Rattle.packet.specs.Items.{allZero, itemsIn, itemAllowed, allAllowed, hasType, noTypeTwice, runAllowed, itemsAllowed, itemsOf, sqiAmong, climaxAmong, sideAmong, kept}
+use Rattle.packet.specs.Quality.{quality}
+use Rattle.reader.specs.Reading.{readerRefusals, messageWith, messageOf}
+use Rattle.writer.specs.Writing.{risingItems, itemBytes, wordsOf, headOf, encode}
+use Rattle.record.specs.Record.{seatNumbers, openedSeat, freshBench, seatOf, lesson, withSeats, withSeat, withSequence}
+use Rattle.seats.specs.Opening.{anyCoupling, openRefusals, openSaid, openedBench}
+use Rattle.air.specs.Air.{takesPart, keyingsOf, keyings, topRank, atRank, leaders, added, onAir, among, smallest, howMany, anySends, airOf, benchAir}
+use Rattle.air.specs.Order.{begins, toLast, orderAfter}
+use Rattle.bench.specs.Hearing.{fieldHeard, keyingBarred, idAllowed, sideBarred, messageRefusals, packetRefusals, heardSeat, takesEffect, sideAfter, heardBench, sameField, isSent, hearing, packetSaid, audioIn}
+use Rattle.bench.specs.Reporting.{reportOf, reportBytes, reportRefusals, reportSaid, reportedBench}
+use Rattle.bench.specs.Step.{Call, packet, Said, done, own, heard, ticked, written, Outcome, step, after}
+use Rattle.record.specs.declared.setup.Setup.{Setup}
+use Rattle.record.specs.declared.bench.Bench.{Bench}
+use Rattle.demands.specs.Apart.{pttOf, liveAboveTest, blotted, fixed, compared}
+use Rattle.demands.specs.LessonsSeen.{enters, voice, keys, asked}
+use Rattle.demands.specs.Undisturbed.{audioSent}
+use Rattle.demands.specs.WrongBenches.{Machine, Keeps, labAfter, Answers, Leaves, WrongBench, refusing, repeating, ignoring, nodding, inventing, withBytes, withCount, retold, wrong, afterBy, ApartAlone, entered, reported, spoken, quietReport, Tried, WrongBenches}
+use Rattle.packet.proofs.Judged.{never}
+use Rattle.demands.proofs.Demand3.Apart.{lessons-apart}
+use Rattle.demands.proofs.Demand3.Undisturbed.{none-sent, together-then}
+use Rattle.demands.proofs.Demand2.Nodding.{nodding-apart}
+
+-- ---- the calls that are tried, computed
+
+tried : Tried
+unfolding centred distance late missing payload payloadAllowed fieldAllowed afterField allZero itemsIn itemAllowed allAllowed hasType noTypeTwice runAllowed itemsAllowed itemsOf sqiAmong climaxAmong sideAmong kept quality readerRefusals messageWith messageOf risingItems itemBytes wordsOf headOf encode openedSeat freshBench seatOf lesson withSeats withSeat withSequence anyCoupling openRefusals openSaid openedBench takesPart keyingsOf keyings topRank atRank leaders added onAir among smallest howMany anySends airOf benchAir fieldHeard keyingBarred idAllowed sideBarred messageRefusals packetRefusals heardSeat begins toLast orderAfter takesEffect sideAfter heardBench sameField isSent hearing packetSaid audioIn reportOf reportBytes reportRefusals reportSaid reportedBench step after
+tried =
+    record {
+      opens = refl;
+      first-report = refl;
+      second-report = refl;
+      was-closed = refl;
+      is-open = refl;
+      releases = refl;
+      nod-releases-not = refl;
+      not-twice = refl;
+      nod-twice = refl;
+      none-missing = refl;
+      one-missing = refl;
+    }
+
+-- ---- each breaks
+
+not-refusing : (number cause : Bench → Call → ℕ) → Answers (wrong (refusing number cause)) [] (enters 1) → ⊥
+not-refusing number cause h = never (own 1) _ _ (sym (h ∙ tried .opens))
+
+not-repeating : (bytes : List ℕ) → Answers (wrong (repeating bytes)) entered (asked 1) → Answers (wrong (repeating bytes)) reported (asked 1) → ⊥
+not-repeating bytes first second =
+    let one : _≡_ {A = Answer Said} (accepted (written bytes)) (accepted (written (quietReport 1))) =
+    ap (mapped (withBytes bytes)) (sym (tried .first-report)) ∙ first ∙ tried .first-report in
+    let two : _≡_ {A = Answer Said} (accepted (written bytes)) (accepted (written (quietReport 2))) =
+    ap (mapped (withBytes bytes)) (sym (tried .second-report)) ∙ second ∙ tried .second-report in
+    let same : _≡_ {A = ℕ} 1 2 = cc in omega arith
+
+not-ignoring : (says : Bench → Call → Answer Said) → Leaves (wrong (ignoring says)) [] (enters 1) → ⊥
+not-ignoring says h =
+    false≢true (sym (tried .was-closed) ∙ ap (λ (b : Bench). seatOf (b .seats) 1 .opened) h ∙ tried .is-open)
+
+not-nodding : Leaves (wrong nodding) spoken (keys 1 off 2) → ⊥
+not-nodding h =
+    let same : _≡_ {A = ℕ} normal off = sym (tried .nod-releases-not) ∙ ap (λ (b : Bench). pttOf b 1) h ∙ tried .releases in omega arith
+
+not-nodding-twice : Answers (wrong nodding) spoken (keys 1 normal 1) → ⊥
+not-nodding-twice h = never (heard 0 false false []) 20 0 (sym (tried .nod-twice) ∙ h ∙ tried .not-twice)
+
+not-inventing : (count : ℕ) → Answers (wrong (inventing count)) entered (keys 1 normal 1) → Answers (wrong (inventing count)) spoken (keys 1 normal 3) → ⊥
+not-inventing count first third =
+    let none : _≡_ {A = Answer Said} (accepted (heard count true false voice)) (accepted (heard 0 true false voice)) =
+    ap (mapped (withCount count)) (sym (tried .none-missing)) ∙ first ∙ tried .none-missing in
+    let one : _≡_ {A = Answer Said} (accepted (heard count false false voice)) (accepted (heard 1 false false voice)) =
+    ap (mapped (withCount count)) (sym (tried .one-missing)) ∙ third ∙ tried .one-missing in
+    let same : _≡_ {A = ℕ} 0 1 = cc in omega arith
+
+shut-out : (w : WrongBench) → Keeps (wrong w) → ⊥
+shut-out (refusing number cause) keeps = not-refusing number cause (ap (λ (o : Outcome). o .answer) (keeps (labAfter []) (enters 1)))
+shut-out (repeating bytes) keeps =
+    not-repeating bytes
+    (ap (λ (o : Outcome). o .answer) (keeps (labAfter entered) (asked 1)))
+    (ap (λ (o : Outcome). o .answer) (keeps (labAfter reported) (asked 1)))
+shut-out (ignoring says) keeps = not-ignoring says (ap (λ (o : Outcome). o .bench) (keeps (labAfter []) (enters 1)))
+shut-out nodding keeps = not-nodding (ap (λ (o : Outcome). o .bench) (keeps (labAfter spoken) (keys 1 off 2)))
+shut-out (inventing count) keeps =
+    not-inventing count
+    (ap (λ (o : Outcome). o .answer) (keeps (labAfter entered) (keys 1 normal 1)))
+    (ap (λ (o : Outcome). o .answer) (keeps (labAfter spoken) (keys 1 normal 3)))
+
+-- ---- demand 3 alone: a bench that never changes
+
+quiet-start : (setup : Setup) → liveAboveTest (freshBench setup) seatNumbers ≡ false
+unfolding liveAboveTest freshBench takesPart seatOf
+quiet-start setup = simp (and-never)
+  where
+    and-never : (t : Bool) → t && false ≡ false
+    and-never true = refl
+    and-never false = refl
+
+module _ (machine : Machine) (still : (b : Bench) (c : Call) → machine b c .bench ≡ b) where
+  stays : (b : Bench) (cs : List Call) → afterBy machine b cs ≡ b
+  unfolding afterBy
+  stays b [] = refl
+  stays b (c ∷ cs) = stays (machine b c .bench) cs ∙ still b c
+
+  still-apart : ApartAlone machine
+  still-apart setup xs ys e =
+      let alike = stays (freshBench setup) xs ∙ sym (stays (freshBench setup) ys) in
+      record {
+        together = ap (λ (b : Bench). liveAboveTest b seatNumbers) alike;
+        same = λ c live. ap (λ (b : Bench). compared setup c (machine b c)) alike;
+        silent = λ n p hidden up missing reply standby sound said. absurd (false≢true
+            (sym (quiet-start setup) ∙ ap (λ (b : Bench). liveAboveTest b seatNumbers) (sym (still _ _ ∙ stays (freshBench setup) xs)) ∙ up));
+      }
+
+-- ---- demand 3 alone: a bench right but for what it says
+
+-- what is compared of the retold is a retelling of what is compared, and the audio is kept
+record Retelling (tell : Said → Said) : Type 0 where
+  seen : (up : Bool) → Said → Said
+  follows : (setup : Setup) (up keysTest : Bool) (s : Said) → fixed setup up keysTest (tell s) ≡ seen up (fixed setup up keysTest s)
+  same-audio : (s : Said) → audioSent (accepted (tell s)) ≡ audioSent (accepted s)
+
+abbrev aboveTestThen : Setup → List Call → Call → Bool
+aboveTestThen setup run c = liveAboveTest (step (after (freshBench setup) run) c .bench) seatNumbers
+
+module _ (tell : Said → Said) (r : Retelling tell) where
+  after-retold : (b : Bench) (cs : List Call) → afterBy (retold tell) b cs ≡ after b cs
+  unfolding afterBy after
+  after-retold b [] = refl
+  after-retold b (c ∷ cs) = after-retold (step b c .bench) cs
+
+  compared-retold : (setup : Setup) (c : Call) (b : Bench)
+      → compared setup c (retold tell b c) ≡ mapped (r .seen (liveAboveTest (step b c .bench) seatNumbers)) (compared setup c (step b c))
+  unfolding compared
+  compared-retold setup c b = by-answer _ _ (step b c .answer)
+    where
+      by-answer : (up keysTest : Bool) (a : Answer Said)
+          → mapped (fixed setup up keysTest) (mapped tell a) ≡ mapped (r .seen up) (mapped (fixed setup up keysTest) a)
+      by-answer up keysTest (accepted s) = ap accepted (r .follows setup up keysTest s)
+      by-answer up keysTest (refused n cause) = refl
+
+  audio-retold : (a : Answer Said) → audioSent (mapped tell a) ≡ audioSent a
+  unfolding audioSent
+  audio-retold (accepted s) = r .same-audio s
+  audio-retold (refused n cause) = refl
+
+  retold-apart : ApartAlone (retold tell)
+  unfolding audioSent
+  retold-apart setup xs ys e = rw (after-retold (freshBench setup) xs, after-retold (freshBench setup) ys)
+      (record {
+        together = lessons-apart setup xs ys e .together;
+        same = λ c live.
+            compared-retold setup c (after (freshBench setup) xs)
+            ∙ ap₂ (λ (up : Bool) (a : Answer Said). mapped (r .seen up) a) (together-after c) (lessons-apart setup xs ys e .same c live)
+            ∙ sym (compared-retold setup c (after (freshBench setup) ys));
+        silent = λ n p hidden up missing reply standby sound said.
+            ap audioSent (sym said) ∙ audio-retold (step (after (freshBench setup) xs) (packet n p) .answer)
+            ∙ none-sent _ (lessons-apart setup xs ys e .silent n p hidden up);
+      })
+    where
+      together-after : (c : Call) → aboveTestThen setup xs c ≡ aboveTestThen setup ys c
+      together-after c =
+          together-then setup xs c ∙ ap (λ (run : List Call). aboveTestThen setup run c) e ∙ sym (together-then setup ys c)
+
+bytes-retelling : (bytes : List ℕ) → Retelling (withBytes bytes)
+unfolding fixed audioSent
+bytes-retelling bytes = record { seen = λ up. withBytes (cond up bytes (blotted bytes)); follows = follows; same-audio = same-audio }
+  where
+    follows : (setup : Setup) (up keysTest : Bool) (s : Said)
+        → fixed setup up keysTest (withBytes bytes s) ≡ withBytes (cond up bytes (blotted bytes)) (fixed setup up keysTest s)
+    follows setup up keysTest done = refl
+    follows setup up keysTest (own id) = refl
+    follows setup up keysTest (heard missing reply standby sound) = refl
+    follows setup up keysTest (ticked closed due) = refl
+    follows setup up keysTest (written told) = refl
+
+    same-audio : (s : Said) → audioSent (accepted (withBytes bytes s)) ≡ audioSent (accepted s)
+    same-audio done = refl
+    same-audio (own id) = refl
+    same-audio (heard missing reply standby sound) = refl
+    same-audio (ticked closed due) = refl
+    same-audio (written told) = refl
+
+count-retelling : (count : ℕ) → Retelling (withCount count)
+unfolding fixed audioSent
+count-retelling count = record { seen = λ up. withCount count; follows = follows; same-audio = same-audio }
+  where
+    follows : (setup : Setup) (up keysTest : Bool) (s : Said)
+        → fixed setup up keysTest (withCount count s) ≡ withCount count (fixed setup up keysTest s)
+    follows setup up keysTest done = refl
+    follows setup up keysTest (own id) = refl
+    follows setup up keysTest (heard missing reply standby sound) = refl
+    follows setup up keysTest (ticked closed due) = refl
+    follows setup up keysTest (written told) = refl
+
+    same-audio : (s : Said) → audioSent (accepted (withCount count s)) ≡ audioSent (accepted s)
+    same-audio done = refl
+    same-audio (own id) = refl
+    same-audio (heard missing reply standby sound) = refl
+    same-audio (ticked closed due) = refl
+    same-audio (written told) = refl
+
+apart-alone : (w : WrongBench) → ApartAlone (wrong w)
+apart-alone (refusing number cause) = still-apart (wrong (refusing number cause)) (λ b c. refl)
+apart-alone (repeating bytes) = retold-apart (withBytes bytes) (bytes-retelling bytes)
+apart-alone (ignoring says) = still-apart (wrong (ignoring says)) (λ b c. refl)
+apart-alone nodding = nodding-apart
+apart-alone (inventing count) = retold-apart (withCount count) (count-retelling count)
+
+pub wrong-benches : WrongBenches
+wrong-benches =
+    record {
+      tried = tried;
+      not-refusing = not-refusing;
+      not-repeating = not-repeating;
+      not-ignoring = not-ignoring;
+      not-nodding = not-nodding;
+      not-nodding-twice = not-nodding-twice;
+      not-inventing = not-inventing;
+      shut-out = shut-out;
+      apart-alone = apart-alone;
+    }

@@ -1,0 +1,120 @@
+-- Demand 3: live seats see of a run what they would see of it without its lesson calls.
+use Prim.Native.Nat.{ℕ}
+use mathlib.Core.Path.{_≡_, refl, sym, ap, ap₂, subst, _∙_}
+use mathlib.Core.Bool.{Bool, true, false, cond}
+use mathlib.Core.List.{List, [], _∷_}
+use lib.Dec.{eqb}
+use Rattle.packet.specs.Packet.{test}
+use Rattle.packet.specs.Refusals.{mapped}
+use Rattle.record.specs.Record.{seatNumbers, lesson, freshBench}
+use Rattle.seats.specs.Radio.{receivedBench, transmitterBench}
+use Rattle.bench.specs.Step.{Call, opening, closing, packet, tick, report, received, transmitter, side, done, step, after}
+use Rattle.record.specs.declared.setup.Setup.{Setup}
+use Rattle.record.specs.declared.seat.Seat.{Seat}
+use Rattle.record.specs.declared.bench.Bench.{Bench}
+use Rattle.demands.specs.Apart.{named, withoutLessons, pttOf, liveAboveTest, fixed, compared, LessonsApart}
+use Rattle.demands.proofs.Bench.Runs.{after-run}
+use Rattle.demands.proofs.Demand3.WithoutLessons.{low, seat-low}
+use Rattle.demands.proofs.Bench.SeatAfter.{setup-kept}
+use Rattle.demands.proofs.Demand3.LessonSeats.{Held, held-step, held-fresh}
+use Rattle.demands.proofs.Demand3.BenchAir.{above-test-low}
+use Rattle.demands.proofs.Demand3.LessonCalls.{unseen}
+use Rattle.demands.proofs.Demand3.LiveCalls.{Match, match-plain, match-opening, match-closing, match-tick, match-side}
+use Rattle.demands.proofs.Demand3.LiveReports.{match-report}
+use Rattle.demands.proofs.Demand3.LivePackets.{match-packet, lesson-silent}
+
+-- ---- one call
+
+pub matched : (b : Bench) (c : Call) → Held b → lesson (b .setup) (named c) ≡ false → Match (b .setup) c (step b c) (step (low b) c)
+unfolding named
+matched b (opening n r) i live = match-opening b n r i live
+matched b (closing n) i live = match-closing b n live
+matched b (packet n p) i live = match-packet b n p i live
+matched b (tick ms) i live = match-tick b ms
+matched b (report n timestamp sound room) i live = match-report b n timestamp sound room i live
+matched b (received signals level) i live =
+    unfold step in match-plain (b .setup) (received signals level) (receivedBench b signals level) _ done (unfold receivedBench low in refl)
+matched b (transmitter healthy) i live =
+    unfold step in match-plain (b .setup) (transmitter healthy) (transmitterBench b healthy) _ done (unfold transmitterBench low in refl)
+matched b (side standby) i live = match-side b standby
+
+-- and so its answer is the same in all that is compared
+compared-low : (b : Bench) (c : Call) → Held b → lesson (b .setup) (named c) ≡ false
+    → compared (b .setup) c (step (low b) c) ≡ compared (b .setup) c (step b c)
+unfolding compared
+compared-low b c i live =
+    ap₂ (λ (up isTest : Bool). mapped (fixed (b .setup) up isTest) (step (low b) c .answer)) above-same test-same ∙ matched b c i live .answer
+  where
+    same : step (low b) c .bench ≡ low (step b c .bench)
+    same = matched b c i live .bench
+
+    above-same : liveAboveTest (step (low b) c .bench) seatNumbers ≡ liveAboveTest (step b c .bench) seatNumbers
+    above-same = ap (λ (x : Bench). liveAboveTest x seatNumbers) same ∙ above-test-low (step b c .bench)
+
+    test-same : eqb (pttOf (step (low b) c .bench) (named c)) test ≡ eqb (pttOf (step b c .bench) (named c)) test
+    test-same =
+        ap (λ (x : Bench). eqb (pttOf x (named c)) test) same
+        ∙ ap (λ (s : Seat). eqb (s .heard .field .ptt) test) (seat-low (step b c .bench) (named c) (ap (λ (s : Setup). lesson s (named c)) (setup-kept b c) ∙ live))
+
+-- ---- whole runs
+
+-- without its lesson seats the bench goes on as one that gets no lesson calls
+low-after : (setup : Setup) (b : Bench) (cs : List Call) → b .setup ≡ setup → Held b → low (after b cs) ≡ after (low b) (withoutLessons setup cs)
+unfolding after withoutLessons
+low-after setup b [] e i = refl
+low-after setup b (c ∷ cs) e i =
+    by-seat (lesson setup (named c)) refl (low-after setup (step b c .bench) cs (setup-kept b c ∙ e) (held-step b c i))
+  where
+    here : (t : Bool) → lesson setup (named c) ≡ t → lesson (b .setup) (named c) ≡ t
+    here t q = ap (λ (s : Setup). lesson s (named c)) e ∙ q
+
+    by-seat : (t : Bool) → lesson setup (named c) ≡ t → low (after (step b c .bench) cs) ≡ after (low (step b c .bench)) (withoutLessons setup cs)
+        → low (after b (c ∷ cs)) ≡ after (low b) (cond t (withoutLessons setup cs) (c ∷ withoutLessons setup cs))
+    by-seat true q rest = rest ∙ ap (λ (x : Bench). after x (withoutLessons setup cs)) (unseen b c (here true q))
+    by-seat false q rest = rest ∙ ap (λ (x : Bench). after x (withoutLessons setup cs)) (sym (matched b c i (here false q) .bench))
+
+-- ---- two runs
+
+-- the bench after a run
+abbrev pub ran : Setup → List Call → Bench
+ran setup run = after (freshBench setup) run
+
+module _ (setup : Setup) where
+  fresh-setup : freshBench setup .setup ≡ setup
+  unfolding freshBench
+  fresh-setup = refl
+
+  pub held : (run : List Call) → Held (ran setup run)
+  held run = after-run Held held-step (freshBench setup) run (held-fresh setup)
+
+  its-setup : (run : List Call) → ran setup run .setup ≡ setup
+  its-setup run = after-run (λ (b : Bench). b .setup ≡ setup) (λ b c e. setup-kept b c ∙ e) (freshBench setup) run fresh-setup
+
+  -- whether a seat is a lesson seat, by the set-up that the bench holds
+  pub its-lesson : (run : List Call) (n : ℕ) {t : Bool} → lesson setup n ≡ t → lesson (ran setup run .setup) n ≡ t
+  its-lesson run n e = ap (λ (s : Setup). lesson s n) (its-setup run) ∙ e
+
+  pub low-alike : (xs ys : List Call) → withoutLessons setup xs ≡ withoutLessons setup ys
+      → low (ran setup xs) ≡ low (ran setup ys)
+  low-alike xs ys e =
+      low-after setup (freshBench setup) xs fresh-setup (held-fresh setup)
+      ∙ ap (after (low (freshBench setup))) e
+      ∙ sym (low-after setup (freshBench setup) ys fresh-setup (held-fresh setup))
+
+  compared-run : (run : List Call) (c : Call) → lesson setup (named c) ≡ false
+      → compared setup c (step (low (ran setup run)) c) ≡ compared setup c (step (ran setup run) c)
+  compared-run run c live =
+      subst (λ (s : Setup). compared s c (step (low (ran setup run)) c) ≡ compared s c (step (ran setup run) c)) (its-setup run)
+      (compared-low (ran setup run) c (held run) (its-lesson run (named c) live))
+
+pub lessons-apart : LessonsApart
+lessons-apart setup xs ys e =
+    record {
+      together =
+          sym (above-test-low (ran setup xs))
+          ∙ ap (λ (x : Bench). liveAboveTest x seatNumbers) (low-alike setup xs ys e)
+          ∙ above-test-low (ran setup ys);
+      same = λ c live.
+          sym (compared-run setup xs c live) ∙ ap (λ (x : Bench). compared setup c (step x c)) (low-alike setup xs ys e) ∙ compared-run setup ys c live;
+      silent = λ n p hidden up. lesson-silent (ran setup xs) n p (held setup xs) (its-lesson setup xs n hidden) up;
+    }

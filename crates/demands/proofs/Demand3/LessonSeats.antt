@@ -1,0 +1,125 @@
+-- What every bench of a run has: lesson seats hold off or Test and are no Coupling seats, and each seat stands in the order. Kept says
+-- more, but of calls whose numbers fit alone; demand 3 is of every call.
+use Prim.Native.Nat.{ℕ, _-_, _≤_}
+use mathlib.Core.Path.{_≡_, refl, sym, ap, _∙_}
+use mathlib.Core.Bool.{Bool, true, false, not, _&&_, _||_, true≢false}
+use mathlib.Core.List.{List, map}
+use native.Mathlib.Omega.{arith}
+use lib.Dec.{eqb}
+use lib.ListN.{getD, set, List·getD-map}
+use borrow.Author.Tests.{eqb-true}
+use Rattle.base.proofs.Truths.{or-right}
+use Rattle.packet.specs.Refusals.{NoCase}
+use Rattle.packet.specs.declared.message.Tx.{Tx}
+use Rattle.record.specs.Record.{seatNumbers, noSuchSeat, closedSeat, openedSeat, seatOf, lesson, freshBench, withSeats, withSeat, withSequence}
+use Rattle.seats.specs.Opening.{isTxRx, isCoupling, holdsCoupling, openedBench, closedBench}
+use Rattle.seats.specs.Ticking.{tickedSeat, tickedBench}
+use Rattle.seats.specs.Radio.{receivedBench, transmitterBench, sidedBench}
+use Rattle.air.specs.Air.{rank, among}
+use Rattle.bench.specs.Hearing.{pttOn, keyingBarred, messageIn, heardSeat, fieldHeard, heardBench}
+use Rattle.bench.specs.Reporting.{reportedBench}
+use Rattle.bench.specs.Step.{Call, opening, closing, packet, tick, report, received, transmitter, side, step}
+use Rattle.record.specs.declared.setup.Setup.{Setup}
+use Rattle.record.specs.declared.seat.Seat.{Seat}
+use Rattle.record.specs.declared.bench.Bench.{Bench}
+use Rattle.seats.specs.declared.opening.Request.{Request}
+use Rattle.base.proofs.Places.{set-cases, all-alike}
+use Rattle.seats.proofs.TickingLaws.{ticked-cases}
+use Rattle.seats.proofs.Accepted.{OpenAccepted, open-accepted}
+use Rattle.bench.proofs.Accepted.{PacketAccepted, packet-accepted}
+use Rattle.demands.specs.ExactCalls.{refusalsOf}
+use Rattle.demands.proofs.Demand1.Calls.{benchAfter, after-call}
+use Rattle.demands.proofs.Bench.Order.{among-after}
+use Rattle.record.proofs.Seats.{each-seat, lesson-flag, seat-of-place}
+
+abbrev pub Meek : Seat → Type 0
+Meek s = (rank (s .heard .field .ptt) ≤ 1) × (holdsCoupling s ≡ false)
+
+pub record Held (b : Bench) : Type 0 where
+  -- by place; a place past the seats counts as closed
+  pub meek : (k : ℕ) → getD (b .setup .lesson) k false ≡ true → Meek (getD (b .seats) k closedSeat)
+  pub placed : (n : ℕ) → noSuchSeat n ≡ false → among (b .order) n ≡ true
+
+-- "lesson seat with PTT on other than Test"
+test-at-most : (m : Tx) (call : ℕ) → keyingBarred true call m ≡ false → rank (m .ptt) ≤ 1
+unfolding keyingBarred
+test-at-most m call h =
+    by-type (eqb (m .ptt) 0) (eqb (m .ptt) 5) refl refl
+    (or-right ((pttOn m && not (isTxRx call || isCoupling call)) || (eqb (m .ptt) 2 && isTxRx call)) (pttOn m && not (eqb (m .ptt) 5)) h)
+  where
+    by-type : (a c : Bool) → eqb (m .ptt) 0 ≡ a → eqb (m .ptt) 5 ≡ c → not a && not c ≡ false → rank (m .ptt) ≤ 1
+    by-type true c p q e = rw (eqb-true (m .ptt) 0 p) (omega arith)
+    by-type false true p q e = rw (eqb-true (m .ptt) 5 q) (omega arith)
+    by-type false false p q e = absurd (true≢false e)
+
+-- ---- seats
+
+meek-closed : Meek closedSeat
+meek-closed = (omega arith, refl)
+
+meek-put : (flags : List Bool) (seats : List Seat) (k : ℕ) (s : Seat) → ((j : ℕ) → getD flags j false ≡ true → Meek (getD seats j closedSeat))
+    → (getD flags k false ≡ true → Meek s) → (j : ℕ) → getD flags j false ≡ true → Meek (getD (set seats k s) j closedSeat)
+meek-put flags seats k s old new j e = set-cases closedSeat Meek seats k j s (old j e) (λ q. new (ap (λ (i : ℕ). getD flags i false) (sym q) ∙ e))
+
+meek-ticked : (ms : ℕ) (s : Seat) → Meek s → Meek (tickedSeat ms s)
+meek-ticked ms s h = ticked-cases Meek ms s meek-closed (λ e younger. h) h
+
+-- ---- calls
+
+held-seats : (b : Bench) (seats : List Seat) → Held b → ((k : ℕ) → getD (b .setup .lesson) k false ≡ true → Meek (getD seats k closedSeat))
+    → Held (withSeats b seats)
+unfolding withSeats
+held-seats b seats i h = record { meek = h; placed = i .placed }
+
+held-opened : (b : Bench) (n : ℕ) (r : Request) → OpenAccepted (b .setup) n (b .seats) r → Held b → Held (openedBench b n r)
+unfolding openedBench withSequence withSeat withSeats openedSeat
+held-opened b n r h i =
+    record {
+      meek = meek-put (b .setup .lesson) (b .seats) (n - 1) _ (i .meek) (λ e. (omega arith, h .lesson-not-coupling (sym (lesson-flag (b .setup) n (h .is-seat)) ∙ e)));
+      placed = i .placed;
+    }
+
+pub held-heard : (b : Bench) (n : ℕ) (p : List ℕ) → PacketAccepted (b .setup) n (b .seats) p → Held b → Held (heardBench b n (messageIn p))
+unfolding heardBench heardSeat fieldHeard
+held-heard b n p h i =
+    record {
+      meek = meek-put (b .setup .lesson) (b .seats) (n - 1) _ (i .meek) (λ e. (calm (sym (lesson-flag (b .setup) n (h .is-seat)) ∙ e), uncoupled e));
+      placed = λ j real. among-after n j _ _ (b .order) ∙ i .placed j real;
+    }
+  where
+    uncoupled : getD (b .setup .lesson) (n - 1) false ≡ true → holdsCoupling (seatOf (b .seats) n) ≡ false
+    uncoupled e = rw (seat-of-place (b .seats) n (h .is-seat)) (i .meek (n - 1) e .1)
+
+    calm : lesson (b .setup) n ≡ true → rank (messageIn p .ptt) ≤ 1
+    calm e = test-at-most (messageIn p) (seatOf (b .seats) n .call) (rw e at (h .may-key))
+
+held-ticked : (b : Bench) (ms : ℕ) → Held b → Held (tickedBench b ms)
+unfolding tickedBench
+held-ticked b ms i = held-seats b _ i (λ k e. ticked k (i .meek k e))
+  where
+    ticked : (k : ℕ) → Meek (getD (b .seats) k closedSeat) → Meek (getD (map (tickedSeat ms) (b .seats)) k closedSeat)
+    ticked k h = unfold tickedSeat in rw (List·getD-map (tickedSeat ms) (b .seats) k closedSeat) (meek-ticked ms (getD (b .seats) k closedSeat) h)
+
+held-made : (b : Bench) (c : Call) → Held b → NoCase (refusalsOf b c) → Held (benchAfter b c)
+held-made b (opening n r) i none = held-opened b n r (open-accepted (b .setup) n (b .seats) r none) i
+held-made b (closing n) i none =
+    unfold closedBench withSeat in held-seats b _ i (meek-put (b .setup .lesson) (b .seats) (n - 1) closedSeat (i .meek) (λ e. meek-closed))
+held-made b (packet n p) i none = held-heard b n p (packet-accepted (b .setup) n (b .seats) p none) i
+held-made b (tick ms) i none = held-ticked b ms i
+held-made b (report n timestamp sound room) i none = unfold reportedBench withSequence in record { meek = i .meek; placed = i .placed }
+held-made b (received signals level) i none = unfold receivedBench in record { meek = i .meek; placed = i .placed }
+held-made b (transmitter healthy) i none = unfold transmitterBench in record { meek = i .meek; placed = i .placed }
+held-made b (side standby) i none = unfold sidedBench in record { meek = i .meek; placed = i .placed }
+
+pub held-step : (b : Bench) (c : Call) → Held b → Held (step b c .bench)
+held-step b c i = after-call Held b c i (held-made b c i)
+
+-- ---- the start
+
+all-placed : (n : ℕ) → noSuchSeat n ≡ false → among seatNumbers n ≡ true
+unfolding among
+all-placed = each-seat (λ n. among seatNumbers n ≡ true) (refl, refl, refl, refl, refl, refl, refl, refl)
+
+pub held-fresh : (setup : Setup) → Held (freshBench setup)
+unfolding freshBench
+held-fresh setup = record { meek = λ k e. rw (all-alike closedSeat 8 k) meek-closed; placed = all-placed }

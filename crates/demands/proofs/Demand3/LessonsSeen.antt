@@ -1,0 +1,34 @@
+-- Demand 3's exceptions, computed.
+use mathlib.Core.Path.{refl}
+use Rattle.base.specs.Order.{centred, distance, late, missing}
+use Rattle.packet.specs.Packet.{payload, payloadAllowed, fieldAllowed, afterField}
+use Rattle.packet.specs.Items.{allZero, itemsIn, itemAllowed, allAllowed, hasType, noTypeTwice, runAllowed, itemsAllowed, itemsOf, sqiAmong, climaxAmong, sideAmong, kept}
+use Rattle.packet.specs.Quality.{quality}
+use Rattle.reader.specs.Reading.{readerRefusals, messageWith, messageOf}
+use Rattle.writer.specs.Writing.{risingItems, itemBytes, wordsOf, headOf, encode}
+use Rattle.record.specs.Record.{openedSeat, freshBench, seatOf, lesson, withSeats, withSeat, withSequence}
+use Rattle.seats.specs.Opening.{anyCoupling, openRefusals, openSaid, openedBench}
+use Rattle.air.specs.Air.{takesPart, keyingsOf, keyings, topRank, atRank, leaders, added, onAir, among, smallest, howMany, anySends, airOf, benchAir}
+use Rattle.bench.specs.Hearing.{fieldHeard, keyingBarred, idAllowed, sideBarred, messageRefusals, packetRefusals, heardSeat, takesEffect, sideAfter, heardBench, sameField, isSent, hearing, packetSaid, audioIn}
+use Rattle.air.specs.Order.{begins, toLast, orderAfter}
+use Rattle.bench.specs.Reporting.{reportOf, reportBytes, reportRefusals, reportSaid, reportedBench}
+use Rattle.bench.specs.Step.{step, after}
+use Rattle.demands.specs.Apart.{named, withoutLessons, liveAboveTest, blotted}
+use Rattle.demands.specs.LessonsSeen.{LessonsSeen}
+
+pub lessons-seen : LessonsSeen
+unfolding centred distance late missing payload payloadAllowed fieldAllowed afterField allZero itemsIn itemAllowed allAllowed hasType noTypeTwice runAllowed itemsAllowed itemsOf sqiAmong climaxAmong sideAmong kept quality readerRefusals messageWith messageOf risingItems itemBytes wordsOf headOf encode openedSeat freshBench seatOf lesson withSeats withSeat withSequence anyCoupling openRefusals openSaid openedBench takesPart keyingsOf keyings topRank atRank leaders added onAir among smallest howMany anySends airOf benchAir fieldHeard keyingBarred idAllowed sideBarred messageRefusals packetRefusals heardSeat begins toLast orderAfter takesEffect sideAfter heardBench sameField isSent hearing packetSaid audioIn reportOf reportBytes reportRefusals reportSaid reportedBench step after named withoutLessons liveAboveTest blotted
+lessons-seen =
+    record {
+      blots = refl;
+      alike = refl;
+      seen = refl;
+      unseen = refl;
+      seen-ptts = refl;
+      locked-out = refl;
+      let-through = refl;
+      wins = refl;
+      above = refl;
+      silenced = refl;
+      is-told = refl;
+    }

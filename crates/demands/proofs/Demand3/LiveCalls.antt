@@ -1,0 +1,135 @@
+-- A call that names no lesson seat does to the bench without its lesson seats what it does to the bench.
+use Prim.Native.Nat.{ℕ, suc, _-_}
+use mathlib.Core.Path.{_≡_, refl, sym, ap, ap₂, subst, _∙_}
+use mathlib.Core.Bool.{Bool, true, false, not, _&&_}
+use mathlib.Core.List.{List, [], _∷_, map}
+use lib.Dec.{ltb, eqb}
+use lib.ListN.{getD, List·getD-map}
+use Rattle.packet.specs.Packet.{test}
+use Rattle.packet.specs.Refusals.{Case, NoCase, accepted, judged, mapped}
+use Rattle.record.specs.Record.{seatNumbers, noSuchSeat, closedSeat, lesson, withSeats, withSeat, withSequence}
+use Rattle.seats.specs.Opening.{anyCoupling, openRefusals, openSaid, openedBench, closeRefusals, closeSaid, closedBench}
+use Rattle.seats.specs.Ticking.{fallsSilent, isDue, tickedSeat, tickRefusals, tickSaid, tickSets, tickedBench}
+use Rattle.seats.specs.Radio.{sidedBench, sideRefusals, sideSaid}
+use Rattle.bench.specs.Step.{Call, opening, closing, tick, side, Said, done, own, ticked, Outcome, outcome, step}
+use Rattle.record.specs.declared.setup.Setup.{Setup}
+use Rattle.record.specs.declared.seat.Seat.{Seat}
+use Rattle.record.specs.declared.bench.Bench.{Bench}
+use Rattle.seats.specs.declared.opening.Request.{Request}
+use Rattle.demands.specs.Apart.{named, pttOf, liveAboveTest, amongLive, fixed}
+use Rattle.demands.proofs.Demand3.Blanking.{blank, set-elsewhere, map-blank, blank-elsewhere}
+use Rattle.packet.proofs.Judged.{judged-both}
+use Rattle.record.proofs.Seats.{lesson-flag}
+use Rattle.demands.proofs.Demand3.WithoutLessons.{low, liveSeats, live-seat}
+use Rattle.demands.proofs.Demand3.LessonSeats.{Meek, Held}
+
+-- what of the answer to a call is compared
+abbrev pub extent : Setup → Call → Outcome → Said → Said
+extent setup c o = fixed setup (liveAboveTest (o .bench) seatNumbers) (eqb (pttOf (o .bench) (named c)) test)
+
+-- l is what the bench without its lesson seats comes to where the bench comes to o
+pub record Match (setup : Setup) (c : Call) (o l : Outcome) : Type 0 where
+  pub bench : l .bench ≡ low (o .bench)
+  pub answer : mapped (extent setup c o) (l .answer) ≡ mapped (extent setup c o) (o .answer)
+
+module _ {A : Type 0} (setup : Setup) (c : Call) (b next low-next : Bench) (cs ds : List Case) (a a′ : A) (tell tell′ : A → Said) where
+  -- refused alike, or accepted alike
+  pub match-judged : ds ≡ cs
+      → (NoCase cs → Match setup c (record { answer = accepted (tell a); bench = next }) (record { answer = accepted (tell′ a′); bench = low-next }))
+      → Match setup c (outcome (judged cs a) tell b next) (outcome (judged ds a′) tell′ (low b) low-next)
+  match-judged e met =
+      subst (λ (es : List Case). Match setup c (outcome (judged cs a) tell b next) (outcome (judged es a′) tell′ (low b) low-next)) (sym e)
+      (judged-both (λ x y. Match setup c (outcome x tell b next) (outcome y tell′ (low b) low-next)) cs a a′ (λ n k. record { bench = refl; answer = refl }) met)
+
+-- an answer in which no lesson seat has a part
+pub match-plain : (setup : Setup) (c : Call) (next low-next : Bench) (said : Said) → low-next ≡ low next
+    → Match setup c (record { answer = accepted said; bench = next }) (record { answer = accepted said; bench = low-next })
+match-plain setup c next low-next said e = record { bench = e; answer = refl }
+
+-- ---- open and close
+
+-- no lesson seat is Coupling, so 18 does not depend on them
+coupling-live : (flags : List Bool) (seats : List Seat) → ((k : ℕ) → getD flags k false ≡ true → Meek (getD seats k closedSeat))
+    → anyCoupling (blank closedSeat flags seats) ≡ anyCoupling seats
+unfolding anyCoupling blank
+coupling-live [] seats h = refl
+coupling-live (f ∷ flags) [] h = refl
+coupling-live (true ∷ flags) (s ∷ seats) h = simp (h 0 refl .1, coupling-live flags seats (λ k. h (suc k)))
+coupling-live (false ∷ flags) (s ∷ seats) h = simp (coupling-live flags seats (λ k. h (suc k)))
+
+pub match-opening : (b : Bench) (n : ℕ) (r : Request) → Held b → lesson (b .setup) n ≡ false
+    → Match (b .setup) (opening n r) (step b (opening n r)) (step (low b) (opening n r))
+unfolding step openSaid
+match-opening b n r i live =
+    match-judged (b .setup) (opening n r) b (openedBench b n r) (openedBench (low b) n r)
+    (openRefusals (b .setup) n (b .seats) r) (openRefusals (low b .setup) n (low b .seats) r) _ _ own own
+    (unfold openRefusals low in simp (live-seat (b .setup) (b .seats) n live, coupling-live (b .setup .lesson) (b .seats) (i .meek)))
+    (λ h. match-plain (b .setup) (opening n r) (openedBench b n r) _ _ (opened-low (unfold openRefusals in h .0)))
+  where
+    opened-low : noSuchSeat n ≡ false → openedBench (low b) n r ≡ low (openedBench b n r)
+    opened-low real =
+        unfold openedBench withSequence withSeat withSeats low in
+        simp (set-elsewhere closedSeat, set-elsewhere {A = ℕ} 0, lesson-flag (b .setup) n real, live)
+
+pub match-closing : (b : Bench) (n : ℕ) → lesson (b .setup) n ≡ false → Match (b .setup) (closing n) (step b (closing n)) (step (low b) (closing n))
+unfolding step closeSaid
+match-closing b n live =
+    match-judged (b .setup) (closing n) b (closedBench b n) (closedBench (low b) n)
+    (closeRefusals n (b .seats)) (closeRefusals n (low b .seats)) tt tt (λ u. done) (λ u. done)
+    (unfold closeRefusals low in simp (live-seat (b .setup) (b .seats) n live))
+    (λ h. match-plain (b .setup) (closing n) (closedBench b n) _ done (closed-low (unfold closeRefusals in h .0)))
+  where
+    closed-low : noSuchSeat n ≡ false → closedBench (low b) n ≡ low (closedBench b n)
+    closed-low real = unfold closedBench withSeat withSeats low in simp (set-elsewhere closedSeat, lesson-flag (b .setup) n real, live)
+
+-- ---- tick
+
+-- functions that agree on the seats
+seats-alike : (f g : ℕ → Bool) → ((n : ℕ) → noSuchSeat n ≡ false → f n ≡ g n) → map f seatNumbers ≡ map g seatNumbers
+seats-alike f g h = cc (h 1 refl, h 2 refl, h 3 refl, h 4 refl, h 5 refl, h 6 refl, h 7 refl, h 8 refl)
+
+-- flags of seats, without the lesson seats
+flags-live : (setup : Setup) (seats : List Seat) (f : Seat → Bool) → f closedSeat ≡ false
+    → amongLive setup (map f (liveSeats setup seats)) ≡ amongLive setup (map f seats)
+unfolding amongLive
+flags-live setup seats f shut = seats-alike _ _ (λ n real. by-seat n real (lesson setup n) refl)
+  where
+    at : (l : List Seat) (k : ℕ) → getD (map f l) k false ≡ f (getD l k closedSeat)
+    at l k = ap (λ (d : Bool). getD (map f l) k d) (sym shut) ∙ List·getD-map f l k closedSeat
+
+    by-seat : (n : ℕ) → noSuchSeat n ≡ false → (t : Bool) → lesson setup n ≡ t
+        → not (lesson setup n) && getD (map f (liveSeats setup seats)) (n - 1) false ≡ not (lesson setup n) && getD (map f seats) (n - 1) false
+    by-seat n real true e = rw e
+    by-seat n real false e =
+        rw e
+        (at (liveSeats setup seats) (n - 1)
+        ∙ ap f (blank-elsewhere closedSeat (setup .lesson) seats (n - 1) (lesson-flag setup n real ∙ e))
+        ∙ sym (at seats (n - 1)))
+
+pub match-tick : (b : Bench) (ms : ℕ) → Match (b .setup) (tick ms) (step b (tick ms)) (step (low b) (tick ms))
+unfolding step tickSaid
+match-tick b ms =
+    match-judged (b .setup) (tick ms) b (tickedBench b ms) (tickedBench (low b) ms) (tickRefusals ms) (tickRefusals ms) tt tt _ _ refl
+    (λ h. record {
+      bench = ticked-low;
+      answer = unfold fixed in ap accepted (sets-alike (unfold tickRefusals in h .0));
+    })
+  where
+    ticked-low : tickedBench (low b) ms ≡ low (tickedBench b ms)
+    ticked-low = unfold tickedBench withSeats low tickedSeat in simp (map-blank closedSeat (tickedSeat ms) refl (b .setup .lesson) (b .seats))
+
+    sets-alike : ltb 1000 ms ≡ false
+        → ticked (amongLive (b .setup) (tickSets (low b) ms .closed)) (amongLive (b .setup) (tickSets (low b) ms .due))
+        ≡ ticked (amongLive (b .setup) (tickSets b ms .closed)) (amongLive (b .setup) (tickSets b ms .due))
+    sets-alike e =
+        unfold tickSets low fallsSilent isDue in
+        simp e (ap₂ ticked (flags-live (b .setup) (b .seats) (fallsSilent ms) refl) (flags-live (b .setup) (b .seats) (isDue ms) refl))
+
+-- ---- the radio's own events
+
+pub match-side : (b : Bench) (standby : Bool) → Match (b .setup) (side standby) (step b (side standby)) (step (low b) (side standby))
+unfolding step sideSaid
+match-side b standby =
+    match-judged (b .setup) (side standby) b (sidedBench b standby) (sidedBench (low b) standby)
+    (sideRefusals (b .setup)) (sideRefusals (low b .setup)) tt tt (λ u. done) (λ u. done)
+    (unfold low in refl) (λ h. match-plain (b .setup) (side standby) (sidedBench b standby) _ done (unfold sidedBench low in refl))

@@ -1,0 +1,153 @@
+-- A report to a live seat, from a bench and from that bench without its lesson seats.
+use Prim.Native.Nat.{ℕ, _+_, _*_, _-_, _≤_}
+use mathlib.Core.Path.{_≡_, refl, sym, ap, ap₂, _∙_}
+use mathlib.Core.Bool.{Bool, true, false, cond, _&&_}
+use mathlib.Core.List.{List}
+use native.Mathlib.Omega.{arith}
+use lib.ListN.{length, getD}
+use Rattle.base.specs.Bytes.{bit}
+use Rattle.packet.specs.Refusals.{NoCase, accepted}
+use Rattle.writer.specs.Writing.{fromRx, risingItems, fewestWords, encode}
+use Rattle.packet.specs.Items.{rssi}
+use Rattle.packet.specs.Quality.{quality}
+use Rattle.packet.specs.declared.message.SqiItem.the-variants as sqi
+use Rattle.packet.specs.declared.message.ClimaxItem.the-variants as climax
+use Rattle.packet.specs.declared.message.Items.{Items}
+use Rattle.packet.specs.declared.message.Message.{Message}
+use Rattle.packet.specs.declared.message.Rx.{Rx}
+use Rattle.record.specs.Record.{seatNumbers, noSuchSeat, seatOf, lesson, withSequence}
+use Rattle.air.specs.Air.{benchAir}
+use Rattle.bench.specs.Reporting.{squTold, sctTold, sqiTold, sideTold, reportOf, reportBytes, reportRefusals, reportSaid, reportedBench}
+use Rattle.bench.specs.Step.{report, written, step}
+use Rattle.record.specs.declared.seat.Seat.{Seat}
+use Rattle.record.specs.declared.bench.Bench.{Bench}
+use Rattle.demands.specs.Apart.{liveAboveTest, blotted, fixed}
+use Rattle.demands.proofs.Demand3.Blanking.{set-elsewhere}
+use Rattle.demands.proofs.Demand3.Blotted.{calm, blotted-calm}
+use Rattle.writer.proofs.Written.{encoded-length}
+use Rattle.record.proofs.Seats.{lesson-flag}
+use Rattle.air.proofs.Bounds.{ptt-most}
+use Rattle.bench.proofs.Accepted.{report-accepted}
+use Rattle.bench.proofs.ReportLaws.{id-told-most}
+use Rattle.demands.proofs.Demand3.WithoutLessons.{low, seat-low, sequence-low}
+use Rattle.demands.proofs.Demand3.LessonSeats.{Held}
+use Rattle.demands.proofs.Demand3.BenchAir.{up-is, air-low}
+use Rattle.demands.proofs.Demand3.LiveCalls.{Match, match-judged}
+
+-- ---- the told type and id fit their bits
+
+type-told : (b : Bench) (n timestamp : ℕ) → reportOf b n timestamp .ptt ≤ 5
+unfolding reportOf
+type-told b n timestamp = ptt-most b
+
+id-told : (b : Bench) (n timestamp : ℕ) → noSuchSeat n ≡ false → reportOf b n timestamp .id ≤ 63
+unfolding reportOf
+id-told b n timestamp real = omega (arith, id-told-most b n real)
+
+-- ---- the length of a report: by signals, kind of radio and audio alone
+
+abbrev pub reportLength : (signals : ℕ) (pair : Bool) (sound : ℕ) → ℕ
+reportLength signals pair sound = 20 + 4 * bit (squTold signals && pair) + sound
+
+itemsTold : (squ pair standby : Bool) (q : ℕ) → Items
+itemsTold squ pair standby q = record { sqi = cond squ (sqi.Is q rssi) sqi.Absent; climax = climax.Absent; side = sideTold pair standby }
+
+words-told : (squ pair standby : Bool) (q : ℕ) → fewestWords (risingItems (itemsTold squ pair standby q)) ≡ 1 + bit (squ && pair)
+unfolding risingItems itemsTold
+words-told true true true q = refl
+words-told true true false q = refl
+words-told true false standby q = refl
+words-told false true true q = refl
+words-told false true false q = refl
+words-told false false standby q = refl
+
+pub report-long : (b : Bench) (n timestamp : ℕ) (sound : List ℕ)
+    → length (reportBytes b n timestamp sound) ≡ reportLength (b .signals) (b .setup .pair) (length sound)
+unfolding reportBytes reportOf itemsTold
+report-long b n timestamp sound =
+    let words = words-told (squTold (b .signals)) (b .setup .pair) (b .standby) (quality (b .level)) in
+    omega (arith, encoded-length (b .setup .ext) (fromRx (reportOf b n timestamp)) sound)
+
+-- ---- the report without the three
+
+calmReport : Bench → (timestamp sequence : ℕ) → Seat → Message
+calmReport b timestamp sequence s =
+    record {
+      sequence = sequence;
+      timestamp = timestamp;
+      ssrc = s .ssrc;
+      ptt = 0;
+      squ = squTold (b .signals);
+      id = 0;
+      pm = s .heard .field .pm;
+      ptts = false;
+      sct = sctTold (b .signals);
+      items = record { sqi = sqiTold (b .signals) (b .level); climax = climax.Absent; side = sideTold (b .setup .pair) (b .standby) };
+    }
+
+calm-report : (b : Bench) (n timestamp : ℕ) → calm (fromRx (reportOf b n timestamp)) ≡ calmReport b timestamp (getD (b .sequences) (n - 1) 0) (seatOf (b .seats) n)
+unfolding calm reportOf calmReport
+calm-report b n timestamp = refl
+
+module _ (b : Bench) (n timestamp : ℕ) (live : lesson (b .setup) n ≡ false) (real : noSuchSeat n ≡ false) where
+  -- from the same air, the same report
+  report-low : benchAir (low b) ≡ benchAir b → reportOf (low b) n timestamp ≡ reportOf b n timestamp
+  unfolding reportOf
+  report-low e = simp (e, sequence-low b n live real, seat-low b n live) (unfold low in refl)
+
+  -- from any air, the same but for the three
+  report-calm : calm (fromRx (reportOf (low b) n timestamp)) ≡ calm (fromRx (reportOf b n timestamp))
+  unfolding low calmReport
+  report-calm = calm-report (low b) n timestamp ∙ ap₂ (calmReport b timestamp) (sequence-low b n live real) (seat-low b n live) ∙ sym (calm-report b n timestamp)
+
+  module _ (sound : List ℕ) where
+    -- "the same bytes"
+    bytes-low : benchAir (low b) ≡ benchAir b → reportBytes (low b) n timestamp sound ≡ reportBytes b n timestamp sound
+    unfolding reportBytes low
+    bytes-low e = ap (λ (r : Rx). encode (b .setup .ext) (fromRx r) sound) (report-low e)
+
+    blotted-low : blotted (reportBytes (low b) n timestamp sound) ≡ blotted (reportBytes b n timestamp sound)
+    unfolding reportBytes low
+    blotted-low =
+        blotted-calm (fromRx (reportOf (low b) n timestamp)) (type-told (low b) n timestamp) (id-told (low b) n timestamp real) (b .setup .ext) sound
+        ∙ ap (λ (m : Message). encode (b .setup .ext) m sound) report-calm
+        ∙ sym (blotted-calm (fromRx (reportOf b n timestamp)) (type-told b n timestamp) (id-told b n timestamp real) (b .setup .ext) sound)
+
+-- ---- the call
+
+-- a report changes nobody's keying
+pub above-reported : (b : Bench) (n : ℕ) → liveAboveTest (reportedBench b n) seatNumbers ≡ liveAboveTest b seatNumbers
+unfolding reportedBench withSequence liveAboveTest
+above-reported b n = refl
+
+module _ (b : Bench) (n timestamp : ℕ) (sound : List ℕ) (room : ℕ) (i : Held b) (live : lesson (b .setup) n ≡ false) where
+  length-low : length (reportBytes (low b) n timestamp sound) ≡ length (reportBytes b n timestamp sound)
+  unfolding low
+  length-low = report-long (low b) n timestamp sound ∙ sym (report-long b n timestamp sound)
+
+  refusals-low : reportRefusals (low b) n timestamp sound room ≡ reportRefusals b n timestamp sound room
+  unfolding reportRefusals
+  refusals-low = simp (length-low, seat-low b n live) (unfold low in refl)
+
+  reported-low : noSuchSeat n ≡ false → reportedBench (low b) n ≡ low (reportedBench b n)
+  unfolding reportedBench withSequence
+  reported-low real = simp (sequence-low b n live real) (unfold low in simp (set-elsewhere {A = ℕ} 0, lesson-flag (b .setup) n real, live))
+
+  told-low : noSuchSeat n ≡ false → (t : Bool) → liveAboveTest b seatNumbers ≡ t
+      → cond t (reportBytes (low b) n timestamp sound) (blotted (reportBytes (low b) n timestamp sound))
+      ≡ cond t (reportBytes b n timestamp sound) (blotted (reportBytes b n timestamp sound))
+  told-low real true up = bytes-low b n timestamp live real sound (air-low b i (up-is b i up))
+  told-low real false e = blotted-low b n timestamp live real sound
+
+  real-seat : NoCase (reportRefusals b n timestamp sound room) → noSuchSeat n ≡ false
+  real-seat h = report-accepted b n timestamp sound room h .is-seat
+
+  pub match-report : Match (b .setup) (report n timestamp sound room) (step b (report n timestamp sound room)) (step (low b) (report n timestamp sound room))
+  unfolding step reportSaid fixed
+  match-report =
+      match-judged (b .setup) (report n timestamp sound room) b (reportedBench b n) (reportedBench (low b) n)
+      (reportRefusals b n timestamp sound room) (reportRefusals (low b) n timestamp sound room) _ _ _ _ refusals-low
+      (λ h. record {
+        bench = reported-low (real-seat h);
+        answer = ap (λ (r : List ℕ). accepted (written r)) (told-low (real-seat h) _ (sym (above-reported b n)));
+      })

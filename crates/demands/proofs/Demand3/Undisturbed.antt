@@ -1,0 +1,145 @@
+-- While a live keying above Test is up the bench is, to live seats, one without lesson seats: a corollary of demand 3.
+use Prim.Native.Nat.{ℕ}
+use mathlib.Core.Path.{_≡_, refl, sym, ap, _∙_}
+use mathlib.Core.Bool.{Bool, true, false, cond}
+use mathlib.Core.List.{List, [], _∷_, _++_}
+use lib.Dec.{eqb}
+use Rattle.packet.specs.Packet.{test}
+use Rattle.packet.specs.Refusals.{Answer, accepted, refused, mapped}
+use Rattle.air.specs.Air.{benchAir}
+use Rattle.record.specs.Record.{seatNumbers, lesson, freshBench, settled}
+use Rattle.bench.specs.Hearing.{packetSaid}
+use Rattle.bench.specs.Reporting.{reportBytes, reportRefusals, reportSaid, reportedBench}
+use Rattle.bench.specs.Step.{Call, packet, report, Said, done, own, heard, ticked, written, told, step, after}
+use Rattle.record.specs.declared.setup.Setup.{Setup}
+use Rattle.record.specs.declared.bench.Bench.{Bench}
+use Rattle.demands.specs.Apart.{named, withoutLessons, pttOf, liveAboveTest, fixed, compared, Apart}
+use Rattle.demands.specs.Undisturbed.{audioSent, Undisturbed}
+use Rattle.packet.proofs.Judged.{judged-one}
+use Rattle.demands.proofs.Demand3.WithoutLessons.{low}
+use Rattle.demands.proofs.Demand3.BenchAir.{up-is, air-low}
+use Rattle.demands.proofs.Demand3.Apart.{ran, held, low-alike, lessons-apart}
+use Rattle.demands.proofs.Demand3.LiveReports.{above-reported}
+
+-- ---- runs
+
+-- leaving out twice is leaving out once
+out-twice : (setup : Setup) (run : List Call) → withoutLessons setup (withoutLessons setup run) ≡ withoutLessons setup run
+unfolding withoutLessons
+out-twice setup [] = refl
+out-twice setup (c ∷ cs) = by-seat (lesson setup (named c)) refl (out-twice setup cs)
+  where
+    by-seat : (t : Bool) → lesson setup (named c) ≡ t → withoutLessons setup (withoutLessons setup cs) ≡ withoutLessons setup cs
+        → withoutLessons setup (cond t (withoutLessons setup cs) (c ∷ withoutLessons setup cs)) ≡ cond t (withoutLessons setup cs) (c ∷ withoutLessons setup cs)
+    by-seat true e rest = rest
+    by-seat false e rest = simp (e, rest)
+
+out-of-both : (setup : Setup) (xs ys : List Call) → withoutLessons setup (xs ++ ys) ≡ withoutLessons setup xs ++ withoutLessons setup ys
+unfolding withoutLessons
+out-of-both setup [] ys = refl
+out-of-both setup (c ∷ xs) ys = by-seat (lesson setup (named c)) (out-of-both setup xs ys)
+  where
+    by-seat : (t : Bool) → withoutLessons setup (xs ++ ys) ≡ withoutLessons setup xs ++ withoutLessons setup ys
+        → cond t (withoutLessons setup (xs ++ ys)) (c ∷ withoutLessons setup (xs ++ ys))
+        ≡ cond t (withoutLessons setup xs) (c ∷ withoutLessons setup xs) ++ withoutLessons setup ys
+    by-seat true rest = rest
+    by-seat false rest = ap (λ (r : List Call). c ∷ r) rest
+
+after-one-more : (b : Bench) (run : List Call) (c : Call) → after b (run ++ (c ∷ [])) ≡ step (after b run) c .bench
+unfolding after
+after-one-more b [] c = refl
+after-one-more b (d ∷ run) c = after-one-more (step b d .bench) run c
+
+-- ---- while the condition is met answers are compared whole
+
+whole : {A : Type 0} (setup : Setup) (isTest : Bool) (tell : A → Said) → ((x : A) → fixed setup true isTest (tell x) ≡ tell x)
+    → (a : Answer A) → mapped (fixed setup true isTest) (mapped tell a) ≡ mapped tell a
+whole setup isTest tell h (accepted x) = ap accepted (h x)
+whole setup isTest tell h (refused n c) = refl
+
+packet-whole : (setup : Setup) (b : Bench) (n : ℕ) (p : List ℕ) → liveAboveTest (step b (packet n p) .bench) seatNumbers ≡ true
+    → compared setup (packet n p) (step b (packet n p)) ≡ step b (packet n p) .answer
+unfolding compared step packetSaid named
+packet-whole setup b n p up = rw up (by-keying (eqb (pttOf (step b (packet n p) .bench) n) test))
+  where
+    by-keying : (isTest : Bool) → mapped (fixed setup true isTest) (step b (packet n p) .answer) ≡ step b (packet n p) .answer
+    by-keying true = whole setup true (told (packetSaid b n p) p) (λ x. unfold fixed in refl) (packetSaid b n p)
+    by-keying false = whole setup false (told (packetSaid b n p) p) (λ x. unfold fixed in refl) (packetSaid b n p)
+
+above-after-report : (b : Bench) (n timestamp : ℕ) (sound : List ℕ) (room : ℕ)
+    → liveAboveTest (step b (report n timestamp sound room) .bench) seatNumbers ≡ liveAboveTest b seatNumbers
+unfolding step reportSaid
+above-after-report b n timestamp sound room =
+    judged-one (λ a. liveAboveTest (settled a b (reportedBench b n)) seatNumbers ≡ liveAboveTest b seatNumbers) (reportRefusals b n timestamp sound room) _
+    (λ k c. refl) (λ h. above-reported b n)
+
+report-whole : (setup : Setup) (b : Bench) (n timestamp : ℕ) (sound : List ℕ) (room : ℕ) → liveAboveTest b seatNumbers ≡ true
+    → compared setup (report n timestamp sound room) (step b (report n timestamp sound room)) ≡ step b (report n timestamp sound room) .answer
+unfolding compared step reportSaid fixed
+report-whole setup b n timestamp sound room up =
+    rw (above-after-report b n timestamp sound room ∙ up)
+    (whole setup _ (λ k. written (reportBytes b n timestamp sound)) (λ x. refl) (reportSaid b n timestamp sound room))
+
+-- ---- no audio
+
+pub none-sent : (a : Answer Said) → ((missing : ℕ) (reply standby : Bool) (sound : List ℕ) → a ≡ accepted (heard missing reply standby sound) → sound ≡ [])
+    → audioSent a ≡ []
+unfolding audioSent
+none-sent (accepted done) h = refl
+none-sent (accepted (own id)) h = refl
+none-sent (accepted (heard missing reply standby sound)) h = h missing reply standby sound refl
+none-sent (accepted (ticked closed due)) h = refl
+none-sent (accepted (written bytes)) h = refl
+none-sent (refused n cause) h = refl
+
+-- ---- the corollary
+
+module _ (setup : Setup) (run : List Call) where
+  apart : Apart step setup (ran setup run) (ran setup (withoutLessons setup run))
+  apart = lessons-apart setup run (withoutLessons setup run) (sym (out-twice setup run))
+
+  -- the condition after one more call, whoever makes it
+  pub together-then : (c : Call) → liveAboveTest (step (ran setup run) c .bench) seatNumbers
+      ≡ liveAboveTest (step (ran setup (withoutLessons setup run)) c .bench) seatNumbers
+  together-then c =
+      ap (λ (x : Bench). liveAboveTest x seatNumbers) (sym (after-one-more (freshBench setup) run c))
+      ∙ lessons-apart setup (run ++ (c ∷ [])) (withoutLessons setup run ++ (c ∷ [])) still-alike .together
+      ∙ ap (λ (x : Bench). liveAboveTest x seatNumbers) (after-one-more (freshBench setup) (withoutLessons setup run) c)
+    where
+      still-alike : withoutLessons setup (run ++ (c ∷ [])) ≡ withoutLessons setup (withoutLessons setup run ++ (c ∷ []))
+      still-alike =
+          out-of-both setup run (c ∷ [])
+          ∙ ap (λ (r : List Call). r ++ withoutLessons setup (c ∷ [])) (sym (out-twice setup run))
+          ∙ sym (out-of-both setup (withoutLessons setup run) (c ∷ []))
+
+pub undisturbed : Undisturbed
+undisturbed setup run =
+    record {
+      air = λ up. sym (air-alone run up) ∙ ap benchAir (low-alike setup run alone (sym (out-twice setup run))) ∙ air-alone alone (sym (apart setup run .together) ∙ up);
+      audio = λ n p up. by-seat n p up (lesson setup n) refl;
+      reports = λ n timestamp sound room live up.
+          sym (report-whole setup (ran setup run) n timestamp sound room up)
+          ∙ apart setup run .same (report n timestamp sound room) (unfold named in live)
+          ∙ report-whole setup (ran setup (withoutLessons setup run)) n timestamp sound room (sym (apart setup run .together) ∙ up);
+    }
+  where
+    alone : List Call
+    alone = withoutLessons setup run
+
+    air-alone : (cs : List Call) → liveAboveTest (ran setup cs) seatNumbers ≡ true → benchAir (low (ran setup cs)) ≡ benchAir (ran setup cs)
+    air-alone cs up = air-low (ran setup cs) (held setup cs) (up-is (ran setup cs) (held setup cs) up)
+
+    up-alone : (n : ℕ) (p : List ℕ) → liveAboveTest (step (ran setup run) (packet n p) .bench) seatNumbers ≡ true
+        → liveAboveTest (step (ran setup (withoutLessons setup run)) (packet n p) .bench) seatNumbers ≡ true
+    up-alone n p up = sym (together-then setup run (packet n p)) ∙ up
+
+    by-seat : (n : ℕ) (p : List ℕ) → liveAboveTest (step (ran setup run) (packet n p) .bench) seatNumbers ≡ true → (t : Bool) → lesson setup n ≡ t
+        → audioSent (step (ran setup run) (packet n p) .answer) ≡ audioSent (step (ran setup (withoutLessons setup run)) (packet n p) .answer)
+    by-seat n p up true hidden =
+        none-sent _ (apart setup run .silent n p hidden up)
+        ∙ sym (none-sent _ (lessons-apart setup (withoutLessons setup run) run (out-twice setup run) .silent n p hidden (up-alone n p up)))
+    by-seat n p up false live =
+        ap audioSent
+        (sym (packet-whole setup (ran setup run) n p up)
+        ∙ apart setup run .same (packet n p) (unfold named in live)
+        ∙ packet-whole setup (ran setup (withoutLessons setup run)) n p (up-alone n p up))

@@ -1,0 +1,56 @@
+-- What each call of the code answers and leaves is what `step` says: the promises and `step` cite the same definitions.
+use Prim.Native.Nat.{ℕ}
+use mathlib.Core.Path.{_≡_, refl, ap, ap₂, _∙_}
+use mathlib.Core.List.{List}
+use denote.Ref.{now}
+use lib.ListN.{length, drop}
+use lib.Seq.{take-at}
+use Rattle.packet.specs.Refusals.{Answer, accepted, mapped}
+use Rattle.writer.specs.Writing.{filled}
+use Rattle.bench.specs.Hearing.{audioIn}
+use Rattle.bench.specs.Reporting.{reportRefusals, reportSaid, reportBytes, reportBuffer}
+use Rattle.bench.specs.Step.{own, done, told, written, step}
+use Rattle.bench.specs.declared.hearing.Hearing.{Hearing}
+use Rattle.record.specs.declared.bench.Bench.{Bench}
+use Rattle.demands.specs.StepOfCode.{did, wasDone, tickedSets, heardWith, inFront, StepOfCode}
+use Rattle.packet.proofs.Judged.{judged-one}
+
+-- the audio of the answer
+with-audio : (p : List ℕ) (answer said : Answer Hearing) → answer ≡ said → mapped (heardWith (audioIn answer p)) answer ≡ mapped (told said p) said
+with-audio p answer said e = ap (λ (a : Answer Hearing). mapped (heardWith (audioIn a p)) a) e
+
+-- the report is the front of its buffer
+module _ (b : Bench) (n timestamp : ℕ) (sound buffer : List ℕ) where
+  abbrev bytes : List ℕ
+  bytes = reportBytes b n timestamp sound
+
+  told-in-front : mapped (inFront (reportBuffer b n timestamp sound buffer)) (reportSaid b n timestamp sound (length buffer))
+      ≡ mapped (λ long. written bytes) (reportSaid b n timestamp sound (length buffer))
+  unfolding reportSaid reportBuffer
+  told-in-front =
+      judged-one (λ a. mapped (inFront (filled a bytes buffer)) a ≡ mapped (λ long. written bytes) a)
+      (reportRefusals b n timestamp sound (length buffer)) (length bytes) (λ number cause. refl)
+      (λ none. ap (λ (front : List ℕ). accepted (written front)) (take-at bytes (drop (length bytes) buffer) (length bytes) refl))
+
+pub step-of-code : StepOfCode
+unfolding step
+step-of-code = record {
+  reads-tx = λ k a r e p. p;
+  reads-rx = λ k a r e p. p;
+  pays-out = λ k a r e p. p .0;
+  writes-tx = λ k a r e p. p;
+  writes-rx = λ k a r e p. p;
+  starts = λ k a r e p. p;
+  opens = λ k a r e p. ap₂ did (ap (mapped own) (p .0)) (p .1);
+  closes = λ k a r e p. ap₂ did (ap (mapped wasDone) (p .0)) (p .1);
+  hears = λ k a r e p. ap₂ did (with-audio _ _ _ (p .0)) (p .1);
+  hands-out = λ k a r e p. p .0;
+  ticks = λ k a r e p.
+      ap₂ did (ap₂ (λ sets answer. mapped (tickedSets sets) answer) (p .1 .0) (p .0)) (p .1 .1);
+  reports = λ k a r e p.
+      ap₂ did (ap₂ (λ left answer. mapped (inFront left) answer) (p .1 .0) (p .0) ∙ told-in-front (a .0) (a .1 .0) (a .1 .1 .0) _ (now (a .1 .1 .1 .1 .0))) (p .1 .1);
+  leaves = λ k a r e p. p .1 .0;
+  receives = λ k a r e p. ap (did (accepted done)) p;
+  transmits = λ k a r e p. ap (did (accepted done)) p;
+  sides = λ k a r e p. ap₂ did (ap (mapped wasDone) (p .0)) (p .1);
+}

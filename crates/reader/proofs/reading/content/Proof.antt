@@ -1,0 +1,82 @@
+use Prim.Native.Nat.{ℕ, _%_}
+use mathlib.Core.Path.{_≡_, ap, sym, _∙_}
+use mathlib.Core.Bool.{true, false}
+use native.Mathlib.Omega.{arith}
+use Rattle.packet.specs.Packet.{field, x, afterField, fieldAllowed}
+use Rattle.reader.specs.Reading.{readerRefusals, messageOf}
+use Rattle.reader.specs.Scan.{itemsRead}
+use Rattle.reader.specs.Pieces.{contentAnswer, payloadAnswer, itemsAnswer}
+use Rattle.reader.proofs.PieceByPiece.{items-then-payload}
+use borrow.Author.Needs.{needs}
+use Rattle.reader.proofs.reading.content.Statement.{statement}
+use Rattle.reader.proofs.reading.content.Tie as tie
+
+field-requires : tie.Need-field-requires
+field-requires c κs = search needs
+
+field-allowed-requires : tie.Need-field-allowed-requires
+field-allowed-requires c κs = search needs
+
+words-at-requires : tie.Need-words-at-requires
+words-at-requires c κs = search needs
+
+cast-words : tie.Need-cast-words
+cast-words c = search needs
+
+add-part : tie.Need-add-part
+add-part c = search needs
+
+payload-at-requires : tie.Need-payload-at-requires
+payload-at-requires c κs = search needs
+
+cast-part : tie.Need-cast-part
+cast-part c = search needs
+
+part-requires : tie.Need-part-requires
+part-requires c κs = search needs
+
+items-requires : tie.Need-items-requires
+items-requires c κs = search needs
+
+with-items-requires : tie.Need-with-items-requires
+with-items-requires c κs = search needs
+
+returns : tie.Need-returns
+unfolding contentAnswer readerRefusals payloadAnswer messageOf afterField
+returns c =
+    let b = c .before .before in
+    let e = b .before .before .before .before in
+    let a = e .before .before .before .args in
+    let p = a .p .now in
+    let xbit : e .before .field .result % 2 ≡ x (field p) = omega (arith, e .before .field .ensures) in
+    let rest : b .part .result .now ≡ afterField p = b .part .ensures .0 ∙ simp (b .before .before .words-at .ensures, b .before .payload-at .ensures) in
+    let allowed : fieldAllowed (a .d) (field p) ≡ true = ap (fieldAllowed (a .d)) (sym (e .before .field .ensures)) ∙ sym (e .field-allowed .ensures) ∙ b .before .before .before .if1 .taken in
+    c .with-items .ensures
+    ∙ ap (itemsAnswer p) (c .before .items .ensures ∙ ap (λ (n : ℕ). itemsRead (a .d) n (b .part .result .now)) xbit ∙ ap (itemsRead (a .d) (x (field p))) rest)
+    ∙ items-then-payload (a .d) p
+    ∙ simp allowed
+
+returns-2 : tie.Need-returns-2
+unfolding contentAnswer readerRefusals
+returns-2 c =
+    let a = c .before .before .before .before .args in
+    let refused : fieldAllowed (a .d) (field (a .p .now)) ≡ false =
+    ap (fieldAllowed (a .d)) (sym (c .before .before .field .ensures)) ∙ sym (c .before .field-allowed .ensures) ∙ c .if1 .left in
+    simp refused
+
+pub content-spec : {M : Type 1} → statement M
+content-spec =
+    tie.close
+    (tie.spec
+    field-requires
+    field-allowed-requires
+    words-at-requires
+    cast-words
+    add-part
+    payload-at-requires
+    cast-part
+    part-requires
+    items-requires
+    with-items-requires
+    returns
+    returns-2)

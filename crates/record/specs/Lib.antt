@@ -1,0 +1,2 @@
+-- The record of the bench.
+pub mod Record

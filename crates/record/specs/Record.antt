@@ -1,0 +1,105 @@
+-- 01, The bench and its calls: the record, what it holds at the start, and a seat just opened.
+use Prim.Native.Nat.{ℕ, _*_, _-_}
+use mathlib.Core.Bool.{Bool, true, false, cond, not, _&&_, _||_}
+use mathlib.Core.List.{List, [], _∷_}
+use lib.Dec.{ltb, eqb}
+use lib.IntN.{pos}
+use lib.ListN.{getD, set, replicate}
+use Rattle.packet.specs.Refusals.{Answer, accepted, refused}
+use Rattle.record.specs.declared.setup.Setup.{Setup}
+use Rattle.record.specs.declared.seat.Field.{Field}
+use Rattle.record.specs.declared.seat.Heard.{Heard}
+use Rattle.record.specs.declared.seat.Seat.{Seat}
+use Rattle.record.specs.declared.bench.Bench.{Bench}
+
+-- "A library for a ground radio with eight seats."
+abbrev pub seatNumbers : List ℕ
+seatNumbers = 1 ∷ 2 ∷ 3 ∷ 4 ∷ 5 ∷ 6 ∷ 7 ∷ 8 ∷ []
+
+-- 13: "seat not 1 to 8"
+abbrev pub noSuchSeat : ℕ → Bool
+noSuchSeat n = eqb n 0 || ltb 8 n
+
+-- "its last field counts as all zero without items"
+abbrev pub zeroField : Field
+zeroField = record { ptt = 0; id = 0; pm = false; ptts = false; delayed = false; delay = 0; sided = false; standby = false }
+
+-- "A seat just opened has heard nothing"
+abbrev pub nothingHeard : Heard
+nothingHeard = record { any = false; ssrc = 0; sequence = 0; field = zeroField }
+
+-- A closed seat remembers nothing at all.
+abbrev pub closedSeat : Seat
+closedSeat =
+    record { opened = false; call = 0; period = 0; multiplier = 0; left = 0; phase = 0; ssrc = 0; heard = nothingHeard }
+
+-- "Opening and each accepted packet set a seat's time left to period times multiplier ms." (Opening, here.)
+unfoldable pub openedSeat : (call period multiplier ssrc : ℕ) → Seat
+openedSeat call period multiplier ssrc =
+    record {
+      opened = true;
+      call = call;
+      period = period;
+      multiplier = multiplier;
+      left = period * multiplier;
+      phase = 0;
+      ssrc = ssrc;
+      heard = nothingHeard;
+    }
+
+-- "At the start no seat is open, main is in use, the transmitter is healthy, no signal is received."
+unfoldable pub freshBench : Setup → Bench
+freshBench setup =
+    record {
+      setup = setup;
+      seats = replicate 8 closedSeat;
+      sequences = replicate 8 0;
+      order = seatNumbers;
+      standby = false;
+      healthy = true;
+      signals = 0;
+      level = pos 0;
+    }
+
+-- The seat of a number; a number that is no seat's counts as a closed one.
+unfoldable pub seatOf : List Seat → ℕ → Seat
+seatOf seats n = cond (noSuchSeat n) closedSeat (getD seats (n - 1) closedSeat)
+
+-- "which seats are lesson seats (the others are live)"
+unfoldable pub lesson : Setup → ℕ → Bool
+lesson setup n = not (noSuchSeat n) && getD (setup .lesson) (n - 1) false
+
+-- The bench with one thing changed.
+unfoldable pub withSeats : Bench → List Seat → Bench
+withSeats b seats =
+    record {
+      setup = b .setup;
+      seats = seats;
+      sequences = b .sequences;
+      order = b .order;
+      standby = b .standby;
+      healthy = b .healthy;
+      signals = b .signals;
+      level = b .level;
+    }
+
+unfoldable pub withSeat : Bench → ℕ → Seat → Bench
+withSeat b n seat = withSeats b (set (b .seats) (n - 1) seat)
+
+unfoldable pub withSequence : Bench → ℕ → ℕ → Bench
+withSequence b n sequence =
+    record {
+      setup = b .setup;
+      seats = b .seats;
+      sequences = set (b .sequences) (n - 1) sequence;
+      order = b .order;
+      standby = b .standby;
+      healthy = b .healthy;
+      signals = b .signals;
+      level = b .level;
+    }
+
+-- "State and buffers stay the same" where a call is refused.
+abbrev pub settled : {A : Type 0} → Answer A → (before after : Bench) → Bench
+settled (accepted a) before after = after
+settled (refused n c) before after = before

@@ -1,0 +1,25 @@
+// What is fixed for the life of a bench.
+ghost use mathlib.Core.Path.{_≡_};
+ghost use Rattle.record.specs.Record.{lesson};
+use crate::seat::no_such_seat;
+
+#[repr(C)]
+pub struct Setup {
+    pub lesson: [bool; 8],
+    pub ext: u16,
+    // a pair of radios, main and standby; else a single radio
+    pub pair: bool,
+    // equal-rank mode: summation, else lockout
+    pub equal_summation: bool,
+    // coupling mode: summation, else interruption
+    pub coupling_summation: bool,
+}
+
+pub fn lesson_seat(setup: Setup, n: u8) -> bool
+    ensures { λ r. ⌜ r ≡ lesson setup n ⌝ }
+{
+    if no_such_seat(n) {
+        return false;
+    }
+    setup.lesson[(n - 1) as usize]
+}

@@ -1,0 +1,100 @@
+-- The items of a message as the bytes of its words: how many, and which.
+use Prim.Native.Nat.{ℕ, suc, _+_, _*_, _-_, _/_, _%_, _≤_}
+use mathlib.Core.Path.{_≡_, refl, ap}
+use mathlib.Core.Bool.{not}
+use mathlib.Core.List.{List, [], _∷_}
+use native.Mathlib.Omega.{arith}
+use borrow.Author.Tests.{ne-eqb}
+use lib.Dec.{eqb}
+use lib.ListN.{length, length-append, length-replicate}
+use Rattle.base.specs.Bytes.{byteAt, placed, partOf, padded}
+use Rattle.base.proofs.Buffers.{unpadded}
+use Rattle.packet.specs.Items.{Item, someItem}
+use Rattle.writer.specs.Writing.{risingItems, itemBytes, sqiListed, climaxListed, sideListed, fewestWords, fieldOf, wordsOf}
+use Rattle.packet.specs.declared.message.SqiItem.{SqiItem}
+use Rattle.packet.specs.declared.message.SqiItem.the-variants as sqi
+use Rattle.packet.specs.declared.message.ClimaxItem.{ClimaxItem}
+use Rattle.packet.specs.declared.message.ClimaxItem.the-variants as climax
+use Rattle.packet.specs.declared.message.SideItem.{SideItem}
+use Rattle.packet.specs.declared.message.SideItem.the-variants as side
+use Rattle.packet.specs.declared.message.Items.{Items}
+use Rattle.packet.specs.declared.message.Message.{Message}
+
+pub some-counted : (is : List Item) → not (eqb (length is) 0) ≡ someItem is
+some-counted [] = refl
+some-counted (i ∷ is) = ap not (ne-eqb (suc (length is)) 0 (λ z. omega arith))
+
+-- the eight bytes that the code makes of a field and the items
+abbrev pub eightBytes : (field : ℕ) → SqiItem → ClimaxItem → SideItem → List ℕ
+eightBytes f sqi.Absent climax.Absent d =
+    f / 256 % 256 ∷ f % 256 ∷ byteAt (itemBytes (sideListed d)) 0 ∷ byteAt (itemBytes (sideListed d)) 1 ∷ 0 ∷ 0 ∷ 0 ∷ 0 ∷ []
+eightBytes f sqi.Absent (climax.Is delay) d =
+    f / 256 % 256 ∷ f % 256 ∷ 33 ∷ (placed 8 0 1 1 + placed 8 1 7 delay) % 256
+    ∷ byteAt (itemBytes (sideListed d)) 0 ∷ byteAt (itemBytes (sideListed d)) 1 ∷ 0 ∷ 0 ∷ []
+eightBytes f (sqi.Is quality method) climax.Absent d =
+    f / 256 % 256 ∷ f % 256 ∷ 17 ∷ (placed 8 0 5 quality + placed 8 5 3 method) % 256
+    ∷ byteAt (itemBytes (sideListed d)) 0 ∷ byteAt (itemBytes (sideListed d)) 1 ∷ 0 ∷ 0 ∷ []
+eightBytes f (sqi.Is quality method) (climax.Is delay) d =
+    f / 256 % 256 ∷ f % 256 ∷ 17 ∷ (placed 8 0 5 quality + placed 8 5 3 method) % 256 ∷ 33 ∷ (placed 8 0 1 1 + placed 8 1 7 delay) % 256
+    ∷ byteAt (itemBytes (sideListed d)) 0 ∷ byteAt (itemBytes (sideListed d)) 1 ∷ []
+
+-- .. are its words, with zeros behind them
+module _ (m : Message) where
+  abbrev is : List Item
+  is = risingItems (m .items)
+
+  by-items : (s : SqiItem) (c : ClimaxItem) (d : SideItem) → m .items ≡ record { sqi = s; climax = c; side = d }
+      → eightBytes (fieldOf m is) s c d ≡ padded 8 (wordsOf m is)
+  unfolding wordsOf itemBytes risingItems
+  by-items sqi.Absent climax.Absent side.Absent e = rw e
+  by-items sqi.Absent climax.Absent side.Main e = rw e
+  by-items sqi.Absent climax.Absent side.Standby e = rw e
+  by-items sqi.Absent (climax.Is d) side.Absent e = rw e
+  by-items sqi.Absent (climax.Is d) side.Main e = rw e
+  by-items sqi.Absent (climax.Is d) side.Standby e = rw e
+  by-items (sqi.Is q t) climax.Absent side.Absent e = rw e
+  by-items (sqi.Is q t) climax.Absent side.Main e = rw e
+  by-items (sqi.Is q t) climax.Absent side.Standby e = rw e
+  by-items (sqi.Is q t) (climax.Is d) side.Absent e = rw e
+  by-items (sqi.Is q t) (climax.Is d) side.Main e = rw e
+  by-items (sqi.Is q t) (climax.Is d) side.Standby e = rw e
+
+  pub words-are : eightBytes (fieldOf m is) (m .items .sqi) (m .items .climax) (m .items .side) ≡ padded 8 (wordsOf m is)
+  words-are = by-items (m .items .sqi) (m .items .climax) (m .items .side) refl
+
+pub item-bytes-length : (is : List Item) → length (itemBytes is) ≡ 2 * length is
+unfolding itemBytes
+item-bytes-length [] = refl
+item-bytes-length (i ∷ is) = let h : length (itemBytes is) ≡ 2 * length is = item-bytes-length is in omega arith
+
+pub words-length : (m : Message) (is : List Item) → length (wordsOf m is) ≡ 4 * fewestWords is
+unfolding wordsOf
+words-length m is = simp (length-append, length-replicate, item-bytes-length) (omega arith)
+
+-- there are three types
+pub at-most-three : (k : Items) → length (risingItems k) ≤ 3
+unfolding risingItems
+at-most-three k = simp length-append (omega (arith, of-sqi (k .sqi), of-climax (k .climax), of-side (k .side)))
+  where
+    of-sqi : (s : SqiItem) → length (sqiListed s) ≤ 1
+    of-sqi sqi.Absent = omega arith
+    of-sqi (sqi.Is q t) = omega arith
+
+    of-climax : (c : ClimaxItem) → length (climaxListed c) ≤ 1
+    of-climax climax.Absent = omega arith
+    of-climax (climax.Is d) = omega arith
+
+    of-side : (d : SideItem) → length (sideListed d) ≤ 1
+    of-side side.Absent = omega arith
+    of-side side.Main = omega arith
+    of-side side.Standby = omega arith
+
+two-words : (k : Items) → 4 * fewestWords (risingItems k) ≤ 8
+two-words k = omega (arith, at-most-three k)
+
+-- of the eight bytes, the words
+pub words-cut : (m : Message) → partOf 0 (4 * fewestWords (risingItems (m .items))) (padded 8 (wordsOf m (risingItems (m .items)))) ≡ wordsOf m (risingItems (m .items))
+words-cut m =
+    let words : List ℕ = wordsOf m (risingItems (m .items)) in
+    let long : 4 * fewestWords (risingItems (m .items)) - 0 ≡ length words = omega (arith, words-length m (risingItems (m .items))) in
+    rw long (unpadded words 8 (omega (arith, two-words (m .items))))

@@ -1,0 +1,9 @@
+// The writers of packets: refusals 27 and 26, and the packet in its plain form.
+// Start at specs/Writing.antt, which says what the public functions promise; then writing.rt. Private: plain.rt (the bytes of
+// a packet).
+mod plain;
+pub mod writing;
+
+pub use writing::Written;
+pub use writing::write_rx;
+pub use writing::write_tx;
