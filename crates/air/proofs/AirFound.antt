@@ -12,7 +12,7 @@ use Rattle.air.specs.Air.{typeOf, keyings, topRank, atRank, leaders, add
 use Rattle.air.specs.Marks.{standing, highest, seatsAt, markAll, marksOf, leadersAt, addedAt, smallestFrom, marked, sendsFrom, pttsShown}
 use Rattle.air.proofs.Marking.{mark-list}
 use Rattle.air.proofs.Places.{highest-is-top, seats-at-rank, nobody-at-zero}
-use Rattle.record.specs.declared.bench.Bench.{Bench}
+use Rattle.record.specs.declared.whole.Bench.{Bench}
 
 module _ (b : Bench) (ranks : List ℕ) (top : ℕ) (placed : ranks ≡ map (standing (b .healthy) (b .seats)) (b .order)) (found : top ≡ highest ranks) where
   top-found : top ≡ topRank (keyings b)

@@ -8,8 +8,8 @@ use Rattle.record.specs.Record.{seatNumbers, seatOf}
 use Rattle.record.specs.declared.setup.Setup.{Setup}
 use Rattle.record.specs.declared.seat.Field.{Field}
 use Rattle.record.specs.declared.seat.Seat.{Seat}
-use Rattle.record.specs.declared.bench.Bench.{Bench}
-use Rattle.record.specs.declared.air.Air.{Air}
+use Rattle.record.specs.declared.whole.Bench.{Bench}
+use Rattle.record.specs.declared.shown.Air.{Air}
 
 -- "Rank: Test, Coupling, Normal, Priority, Emergency, lowest first." 0 for off and for the reserved codes.
 abbrev pub rank : (ptt : ℕ) → ℕ

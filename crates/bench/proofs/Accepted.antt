@@ -18,7 +18,7 @@ use Rattle.bench.specs.Hearing.{keyingBarred, idAllowed, sideBarred, mes
 use Rattle.bench.specs.Reporting.{audioBarred, reportBytes, reportRefusals}
 use Rattle.record.specs.declared.setup.Setup.{Setup}
 use Rattle.record.specs.declared.seat.Seat.{Seat}
-use Rattle.record.specs.declared.bench.Bench.{Bench}
+use Rattle.record.specs.declared.whole.Bench.{Bench}
 
 pub record PacketAccepted (setup : Setup) (n : ℕ) (seats : List Seat) (p : List ℕ) : Type 0 where
   pub is-seat : noSuchSeat n ≡ false

@@ -14,7 +14,7 @@ use Rattle.packet.specs.Refusals.{NoCase, accepted}
 use Rattle.packet.proofs.Judged.{meets-none}
 use Rattle.reader.proofs.Passed.{payload-length}
 use Rattle.bench.specs.Hearing.{messageIn, packetRefusals, packetSaid, hearing, isSent, audioIn}
-use Rattle.record.specs.declared.bench.Bench.{Bench}
+use Rattle.record.specs.declared.whole.Bench.{Bench}
 use Rattle.bench.specs.declared.hearing.Hearing.{Hearing}
 use Rattle.bench.proofs.Accepted.{packet-accepted}
 

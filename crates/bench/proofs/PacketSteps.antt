@@ -22,7 +22,7 @@ use Rattle.seats.specs.Opening.{closeRefusals, seatVerdict}
 use Rattle.bench.specs.Hearing.{messageIn, messageRefusals, packetRefusals, packetSaid, heardBench, hearing, isSent, audioIn, audioAt, isOnAir, hearingOf}
 use Rattle.bench.specs.Pieces.{Whole, messageVerdict, messageSaid}
 use Rattle.bench.specs.Answers.{packetAnswer}
-use Rattle.record.specs.declared.bench.Bench.{Bench}
+use Rattle.record.specs.declared.whole.Bench.{Bench}
 use Rattle.bench.specs.declared.hearing.Hearing.{Hearing}
 use Rattle.bench.specs.declared.hearing.PacketAnswer.the-variants as answer
 use Rattle.bench.specs.declared.hearing.Packeted.{Packeted}

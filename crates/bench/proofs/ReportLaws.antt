@@ -25,7 +25,7 @@ use Rattle.air.specs.Air.{benchAir}
 use Rattle.bench.specs.Reporting.{idTold, squTold, sqiTold, audioBarred, reportOf, reportBytes, reportRefusals, reportSaid, reportBuffer}
 use Rattle.bench.specs.Pieces.{reportVerdict}
 use Rattle.record.specs.declared.seat.Seat.{Seat}
-use Rattle.record.specs.declared.bench.Bench.{Bench}
+use Rattle.record.specs.declared.whole.Bench.{Bench}
 use Rattle.record.proofs.Seats.{seat-in-range}
 use Rattle.air.proofs.Bounds.{ptt-most, id-most}
 

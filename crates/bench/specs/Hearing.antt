@@ -23,7 +23,7 @@ use Rattle.record.specs.declared.setup.Setup.{Setup}
 use Rattle.record.specs.declared.seat.Field.{Field}
 use Rattle.record.specs.declared.seat.Heard.{Heard}
 use Rattle.record.specs.declared.seat.Seat.{Seat}
-use Rattle.record.specs.declared.bench.Bench.{Bench}
+use Rattle.record.specs.declared.whole.Bench.{Bench}
 use Rattle.bench.specs.declared.hearing.Hearing.{Hearing}
 
 -- What a seat keeps of a message: its field with its items.

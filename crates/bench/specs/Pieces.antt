@@ -12,7 +12,7 @@ use Rattle.bench.specs.Hearing.{messageRefusals, heardBench, isOnAir, he
 use Rattle.bench.specs.Reporting.{audioBarred}
 use Rattle.record.specs.declared.setup.Setup.{Setup}
 use Rattle.record.specs.declared.seat.Seat.{Seat}
-use Rattle.record.specs.declared.bench.Bench.{Bench}
+use Rattle.record.specs.declared.whole.Bench.{Bench}
 use Rattle.bench.specs.declared.hearing.Hearing.{Hearing}
 
 -- what is left of a packet's length where 1 to 12 do not hold: at most 15 CSRC words, 15 words and 240 bytes of audio

@@ -16,8 +16,8 @@ use Rattle.packet.specs.declared.message.SideItem.the-variants as side
 use Rattle.packet.specs.declared.message.Rx.{Rx}
 use Rattle.record.specs.Record.{noSuchSeat, seatOf, withSequence}
 use Rattle.air.specs.Air.{benchAir}
-use Rattle.record.specs.declared.bench.Bench.{Bench}
-use Rattle.record.specs.declared.air.Air.{Air}
+use Rattle.record.specs.declared.whole.Bench.{Bench}
+use Rattle.record.specs.declared.shown.Air.{Air}
 
 -- "ptt-id: 0 if off; the seat's own if it is on the air at the top rank; else the smallest on the air at the top rank."
 -- (A seat that leads is keyed, so TxRx or Coupling, and its own ptt-id is its number: Kept, may-key.)

@@ -10,7 +10,7 @@ use Rattle.seats.specs.Ticking.{tickSaid, tickSets, tickedBench}
 use Rattle.seats.specs.Radio.{receivedBench, transmitterBench, sidedBench, sideSaid}
 use Rattle.bench.specs.Hearing.{packetSaid, heardBench, messageIn, audioIn}
 use Rattle.bench.specs.Reporting.{reportSaid, reportBytes, reportedBench}
-use Rattle.record.specs.declared.bench.Bench.{Bench}
+use Rattle.record.specs.declared.whole.Bench.{Bench}
 use Rattle.seats.specs.declared.opening.Request.{Request}
 use Rattle.bench.specs.declared.hearing.Hearing.{Hearing}
 

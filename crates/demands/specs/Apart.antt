@@ -15,7 +15,7 @@ use Rattle.record.specs.Record.{seatNumbers, seatOf, lesson, freshBench}
 use Rattle.air.specs.Air.{rank, takesPart}
 use Rattle.bench.specs.Step.{Call, opening, closing, packet, tick, report, received, transmitter, side, Said, done, own, heard, ticked, written, Outcome, step, after}
 use Rattle.record.specs.declared.setup.Setup.{Setup}
-use Rattle.record.specs.declared.bench.Bench.{Bench}
+use Rattle.record.specs.declared.whole.Bench.{Bench}
 
 -- The seat that a call names, 0 where it names none.
 unfoldable pub named : Call → ℕ

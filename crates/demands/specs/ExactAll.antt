@@ -13,7 +13,7 @@ use Rattle.packet.specs.declared.message.Direction.{Direction}
 use Rattle.packet.specs.declared.message.Message.{Message}
 use Rattle.air.specs.Air.{among}
 use Rattle.bench.specs.Step.{opening, closing, packet, tick, report, received, transmitter, side}
-use Rattle.record.specs.declared.bench.Bench.{Bench}
+use Rattle.record.specs.declared.whole.Bench.{Bench}
 use Rattle.seats.specs.declared.opening.Request.{Request}
 use Rattle.demands.specs.Exact.{Exact, ReadersExact}
 use Rattle.demands.specs.ExactCalls.{refusalsOf, CallsExact}

@@ -11,7 +11,7 @@ use Rattle.seats.specs.Radio.{sideRefusals}
 use Rattle.bench.specs.Hearing.{packetRefusals}
 use Rattle.bench.specs.Reporting.{reportRefusals, reportBuffer}
 use Rattle.bench.specs.Step.{Call, opening, closing, packet, tick, report, received, transmitter, side, step}
-use Rattle.record.specs.declared.bench.Bench.{Bench}
+use Rattle.record.specs.declared.whole.Bench.{Bench}
 use Rattle.demands.specs.Exact.{Exact}
 
 -- "Packet 13, 14, 1 to 12, 19 to 23. Open 13, 15 to 18. Close 13, 14. Report 13, 14, 25, 26. Tick 24. Side event 23; the

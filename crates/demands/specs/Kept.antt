@@ -14,7 +14,7 @@ use Rattle.bench.specs.Step.{Call, opening, closing, packet, tick, report, rece
 use Rattle.record.specs.declared.setup.Setup.{Setup}
 use Rattle.record.specs.declared.seat.Field.{Field}
 use Rattle.record.specs.declared.seat.Seat.{Seat}
-use Rattle.record.specs.declared.bench.Bench.{Bench}
+use Rattle.record.specs.declared.whole.Bench.{Bench}
 
 -- The last field of a seat of that call type, with that ptt-id of its own.
 pub record FieldKept (isLesson pair : Bool) (call own : ℕ) (f : Field) : Type 0 where

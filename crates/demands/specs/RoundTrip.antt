@@ -11,7 +11,7 @@ use Rattle.writer.specs.Writing.{fromTx, fromRx, encode, writable, write, buffe
 use Rattle.packet.specs.declared.message.Message.{Message}
 use Rattle.packet.specs.declared.message.Tx.{Tx}
 use Rattle.packet.specs.declared.message.Rx.{Rx}
-use Rattle.record.specs.declared.bench.Bench.{Bench}
+use Rattle.record.specs.declared.whole.Bench.{Bench}
 use Rattle.bench.specs.Reporting.{reportOf, reportSaid, reportBytes}
 use Rattle.demands.specs.Plain.{Plain}
 

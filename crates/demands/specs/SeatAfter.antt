@@ -13,7 +13,7 @@ use Rattle.seats.specs.Ticking.{tickedSeat}
 use Rattle.bench.specs.Hearing.{heardSeat, messageIn}
 use Rattle.bench.specs.Step.{Call, opening, closing, packet, tick, report, received, transmitter, side, step, after, acceptedCalls}
 use Rattle.record.specs.declared.seat.Seat.{Seat}
-use Rattle.record.specs.declared.bench.Bench.{Bench}
+use Rattle.record.specs.declared.whole.Bench.{Bench}
 use Rattle.demands.specs.ExactCalls.{refusalsOf}
 
 -- what an accepted call makes of seat n

@@ -15,7 +15,7 @@ use Rattle.bench.specs.Hearing.{audioIn}
 use Rattle.bench.specs.Reporting.{reportBuffer}
 use Rattle.bench.specs.Answers.{packetAnswer}
 use Rattle.bench.specs.Step.{opening, closing, packet, tick, report, received, transmitter, side, Said, done, own, heard, ticked, written, Outcome, step}
-use Rattle.record.specs.declared.bench.Bench.{Bench}
+use Rattle.record.specs.declared.whole.Bench.{Bench}
 use Rattle.seats.specs.declared.ticking.SeatSets.{SeatSets}
 use Rattle.bench.specs.declared.hearing.Hearing.{Hearing}
 use Rattle.reader.proofs as reader
@@ -56,7 +56,7 @@ pub record StepOfCode : Type 1 where
   pub writes-rx : Gives writer.write_rx.Reads.Learnt (λ k (ext, (m, (sound, (out, end)))) r e.
       (writtenAnswer r ≡ write ext (fromRx m) (now sound) (length (now out))) × (now (e .1 .1 .1 .0) ≡ buffered ext (fromRx m) (now sound) (now out)))
   -- the calls of the bench
-  pub starts : Gives the-record.bench.Bench.fresh.Reads.Learnt (λ k (setup, end) r e. r ≡ freshBench setup)
+  pub starts : Gives the-record.whole.Bench.fresh.Reads.Learnt (λ k (setup, end) r e. r ≡ freshBench setup)
   pub opens : Gives seats.«open».Reads.Learnt
       (λ k (b, (n, (request, end))) r e. did (mapped own (openAnswer (r .answer))) (r .bench) ≡ step b (opening n request))
   pub closes : Gives seats.close.Reads.Learnt

@@ -67,7 +67,7 @@ pub record TightWriter : Type 1 where
 
 pub record TightRecord : Type 1 where
   pub opened : OneResult the-record.seat.Seat.opened.Reads.Learnt
-  pub fresh : OneResult the-record.bench.Bench.fresh.Reads.Learnt
+  pub fresh : OneResult the-record.whole.Bench.fresh.Reads.Learnt
   pub no-such-seat : OneResult the-record.no_such_seat.Reads.Learnt
   pub seat-of : OneResult the-record.seat_of.Reads.Learnt
   pub lesson-seat : OneResult the-record.lesson_seat.Reads.Learnt

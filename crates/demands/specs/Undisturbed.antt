@@ -9,7 +9,7 @@ use Rattle.record.specs.Record.{seatNumbers, lesson, freshBench}
 use Rattle.air.specs.Air.{benchAir}
 use Rattle.bench.specs.Step.{Call, packet, report, Said, done, own, heard, ticked, written, step, after}
 use Rattle.record.specs.declared.setup.Setup.{Setup}
-use Rattle.record.specs.declared.bench.Bench.{Bench}
+use Rattle.record.specs.declared.whole.Bench.{Bench}
 use Rattle.demands.specs.Apart.{withoutLessons, liveAboveTest}
 
 unfoldable pub audioSent : Answer Said → List ℕ

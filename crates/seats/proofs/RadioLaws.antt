@@ -5,7 +5,7 @@ use borrow.Author.Needs.{needs}
 use Rattle.packet.specs.Refusals.{accepted, refused}
 use Rattle.record.specs.Record.{settled}
 use Rattle.seats.specs.Radio.{sidedBench, sideRefusals, sideSaid}
-use Rattle.record.specs.declared.bench.Bench.{Bench}
+use Rattle.record.specs.declared.whole.Bench.{Bench}
 
 module _ (b : Bench) where
   pub side-23 : b .setup .pair ≡ false → refused 23 0 ≡ sideSaid b

@@ -16,7 +16,7 @@ use Rattle.packet.specs.Refusals.{accepted, refused}
 use Rattle.record.specs.Record.{closedSeat, settled}
 use Rattle.seats.specs.Ticking.{fallsSilent, phaseAfter, isDue, aged, tickedSeat, tickRefusals, tickSaid, noSeats, tickSets, tickedBench}
 use Rattle.record.specs.declared.seat.Seat.{Seat}
-use Rattle.record.specs.declared.bench.Bench.{Bench}
+use Rattle.record.specs.declared.whole.Bench.{Bench}
 use Rattle.seats.specs.declared.ticking.SeatSets.{SeatSets}
 
 -- what is left over of a period fits where the period does

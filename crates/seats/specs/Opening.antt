@@ -7,7 +7,7 @@ use Rattle.packet.specs.Refusals.{Case, _if_, Answer, judged}
 use Rattle.record.specs.Record.{noSuchSeat, seatOf, lesson, closedSeat, openedSeat, withSeat, withSequence}
 use Rattle.record.specs.declared.setup.Setup.{Setup}
 use Rattle.record.specs.declared.seat.Seat.{Seat}
-use Rattle.record.specs.declared.bench.Bench.{Bench}
+use Rattle.record.specs.declared.whole.Bench.{Bench}
 use Rattle.seats.specs.declared.opening.CallType.{CallType}
 use Rattle.seats.specs.declared.opening.CallType.the-variants.{Idle, RxOnly, TxRx, Coupling}
 use Rattle.seats.specs.declared.opening.Request.{Request}

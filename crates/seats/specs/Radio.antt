@@ -6,7 +6,7 @@ use mathlib.Core.List.{List, [], _∷_}
 use lib.IntN.{ℤ}
 use Rattle.packet.specs.Refusals.{Case, _if_, Answer, judged}
 use Rattle.record.specs.declared.setup.Setup.{Setup}
-use Rattle.record.specs.declared.bench.Bench.{Bench}
+use Rattle.record.specs.declared.whole.Bench.{Bench}
 
 unfoldable pub receivedBench : Bench → (signals : ℕ) (level : ℤ) → Bench
 receivedBench b signals level =

@@ -7,7 +7,7 @@ use lib.ListN.{replicate}
 use Rattle.packet.specs.Refusals.{Case, _if_, Answer, judged}
 use Rattle.record.specs.Record.{closedSeat, withSeats}
 use Rattle.record.specs.declared.seat.Seat.{Seat}
-use Rattle.record.specs.declared.bench.Bench.{Bench}
+use Rattle.record.specs.declared.whole.Bench.{Bench}
 use Rattle.seats.specs.declared.ticking.SeatSets.{SeatSets}
 
 -- "A tick takes its ms from that; the seat is closed if nothing is left."

@@ -7,7 +7,7 @@ use lib.Dec.{ltb, eqb}
 use Rattle.record.specs.Record.{seatOf, lesson}
 use Rattle.seats.specs.Opening.{isCoupling, holdsCoupling}
 use Rattle.air.specs.Air.{rank, keyed}
-use Rattle.record.specs.declared.bench.Bench.{Bench}
+use Rattle.record.specs.declared.whole.Bench.{Bench}
 use Rattle.demands.specs.Kept.{Kept}
 
 -- a table of the six types: a test of the type that holds at each of them

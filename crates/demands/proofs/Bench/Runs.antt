@@ -1,7 +1,7 @@
 -- Induction over the calls of a run.
 use mathlib.Core.List.{List, [], _∷_}
 use Rattle.bench.specs.Step.{Call, step, after}
-use Rattle.record.specs.declared.bench.Bench.{Bench}
+use Rattle.record.specs.declared.whole.Bench.{Bench}
 
 -- what every call keeps, a run keeps
 pub after-run : (P : Bench → Type 0) → ((b : Bench) (c : Call) → P b → P (step b c .bench)) → (b : Bench) (cs : List Call) → P b → P (after b cs)

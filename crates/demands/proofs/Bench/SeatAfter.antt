@@ -15,7 +15,7 @@ use Rattle.bench.specs.Hearing.{heardSeat, heardBench, messageIn}
 use Rattle.bench.specs.Reporting.{reportedBench}
 use Rattle.bench.specs.Step.{Call, opening, closing, packet, tick, report, received, transmitter, side, Said, step, after, wasAccepted, acceptedCalls}
 use Rattle.record.specs.declared.seat.Seat.{Seat}
-use Rattle.record.specs.declared.bench.Bench.{Bench}
+use Rattle.record.specs.declared.whole.Bench.{Bench}
 use Rattle.demands.specs.ExactCalls.{refusalsOf}
 use Rattle.demands.specs.SeatAfter.{seatAfter, seatThrough, SeatsByCalls}
 use Rattle.demands.proofs.Demand1.Exact.{exact-judged}

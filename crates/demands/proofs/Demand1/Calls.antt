@@ -9,7 +9,7 @@ use Rattle.seats.specs.Radio.{receivedBench, transmitterBench, sidedBench, side
 use Rattle.bench.specs.Hearing.{packetSaid, hearing, heardBench, messageIn}
 use Rattle.bench.specs.Reporting.{reportSaid, reportBytes, reportedBench}
 use Rattle.bench.specs.Step.{Call, opening, closing, packet, tick, report, received, transmitter, side, Said, done, own, ticked, written, told, step}
-use Rattle.record.specs.declared.bench.Bench.{Bench}
+use Rattle.record.specs.declared.whole.Bench.{Bench}
 use Rattle.demands.specs.ExactCalls.{refusalsOf}
 use Rattle.packet.proofs.Judged.{judged-both, judged-one, judged-mapped, accepts}
 

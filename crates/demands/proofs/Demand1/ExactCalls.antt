@@ -8,7 +8,7 @@ use Rattle.writer.specs.Writing.{filled}
 use Rattle.record.specs.Record.{settled}
 use Rattle.bench.specs.Reporting.{reportSaid, reportBytes, reportBuffer}
 use Rattle.bench.specs.Step.{Call, report, Said, written, step}
-use Rattle.record.specs.declared.bench.Bench.{Bench}
+use Rattle.record.specs.declared.whole.Bench.{Bench}
 use Rattle.demands.specs.Exact.{Exact}
 use Rattle.demands.specs.ExactCalls.{refusalsOf, CallsExact}
 use Rattle.packet.proofs.Judged.{never}

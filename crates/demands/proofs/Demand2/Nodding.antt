@@ -10,7 +10,7 @@ use Rattle.record.specs.Record.{seatNumbers, lesson, freshBench}
 use Rattle.bench.specs.Step.{Call, opening, closing, packet, tick, report, received, transmitter, side, heard, step, after}
 use Rattle.record.specs.declared.setup.Setup.{Setup}
 use Rattle.record.specs.declared.seat.Seat.{Seat}
-use Rattle.record.specs.declared.bench.Bench.{Bench}
+use Rattle.record.specs.declared.whole.Bench.{Bench}
 use Rattle.demands.specs.Apart.{named, withoutLessons, liveAboveTest, fixed, compared}
 use Rattle.demands.specs.WrongBenches.{nodding, isLater, nod, wrong, afterBy, ApartAlone}
 use Rattle.demands.proofs.Demand3.WithoutLessons.{low, seat-low}

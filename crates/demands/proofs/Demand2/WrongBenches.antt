@@ -19,7 +19,7 @@ use Rattle.bench.specs.Hearing.{fieldHeard, keyingBarred, idAllowed, sideBarred
 use Rattle.bench.specs.Reporting.{reportOf, reportBytes, reportRefusals, reportSaid, reportedBench}
 use Rattle.bench.specs.Step.{Call, packet, Said, done, own, heard, ticked, written, Outcome, step, after}
 use Rattle.record.specs.declared.setup.Setup.{Setup}
-use Rattle.record.specs.declared.bench.Bench.{Bench}
+use Rattle.record.specs.declared.whole.Bench.{Bench}
 use Rattle.demands.specs.Apart.{pttOf, liveAboveTest, blotted, fixed, compared}
 use Rattle.demands.specs.LessonsSeen.{enters, voice, keys, asked}
 use Rattle.demands.specs.Undisturbed.{audioSent}

@@ -11,7 +11,7 @@ use Rattle.seats.specs.Radio.{receivedBench, transmitterBench}
 use Rattle.bench.specs.Step.{Call, opening, closing, packet, tick, report, received, transmitter, side, done, step, after}
 use Rattle.record.specs.declared.setup.Setup.{Setup}
 use Rattle.record.specs.declared.seat.Seat.{Seat}
-use Rattle.record.specs.declared.bench.Bench.{Bench}
+use Rattle.record.specs.declared.whole.Bench.{Bench}
 use Rattle.demands.specs.Apart.{named, withoutLessons, pttOf, liveAboveTest, fixed, compared, LessonsApart}
 use Rattle.demands.proofs.Bench.Runs.{after-run}
 use Rattle.demands.proofs.Demand3.WithoutLessons.{low, seat-low}

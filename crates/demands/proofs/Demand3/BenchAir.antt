@@ -12,7 +12,7 @@ use Rattle.record.specs.Record.{seatNumbers, noSuchSeat, seatOf, lesson}
 use Rattle.air.specs.Air.{rank, takesPart, keyingOf, keyingsOf, keyings, topRank, among, benchAir}
 use Rattle.record.specs.declared.setup.Setup.{Setup}
 use Rattle.record.specs.declared.seat.Seat.{Seat}
-use Rattle.record.specs.declared.bench.Bench.{Bench}
+use Rattle.record.specs.declared.whole.Bench.{Bench}
 use Rattle.demands.specs.Apart.{pttOf, liveAboveTest}
 use Rattle.record.proofs.Seats.{lesson-flag, seat-of-place}
 use Rattle.demands.proofs.Demand3.WithoutLessons.{low, live-seat}

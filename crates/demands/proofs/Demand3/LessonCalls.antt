@@ -10,7 +10,7 @@ use Rattle.seats.specs.Opening.{openedBench, closedBench}
 use Rattle.bench.specs.Hearing.{messageIn, fieldHeard, heardBench}
 use Rattle.bench.specs.Reporting.{reportedBench}
 use Rattle.bench.specs.Step.{Call, opening, closing, packet, tick, report, received, transmitter, side, step}
-use Rattle.record.specs.declared.bench.Bench.{Bench}
+use Rattle.record.specs.declared.whole.Bench.{Bench}
 use Rattle.seats.specs.declared.opening.Request.{Request}
 use Rattle.demands.specs.Apart.{named}
 use Rattle.demands.proofs.Demand3.Blanking.{set-hidden}

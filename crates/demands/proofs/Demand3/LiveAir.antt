@@ -11,7 +11,7 @@ use Rattle.record.specs.Record.{seatNumbers, seatOf, lesson}
 use Rattle.air.specs.Air.{couplingRank, theFirst, takesPart, Keying, keyingsOf, keyings, topRank, atRank, leaders, added, onAir, among, anySends, airOf}
 use Rattle.record.specs.declared.setup.Setup.{Setup}
 use Rattle.record.specs.declared.seat.Seat.{Seat}
-use Rattle.record.specs.declared.bench.Bench.{Bench}
+use Rattle.record.specs.declared.whole.Bench.{Bench}
 use Rattle.air.proofs.Marking.{among-both}
 use Rattle.demands.proofs.Demand3.WithoutLessons.{liveOrder, liveSeats, low, live-seat}
 

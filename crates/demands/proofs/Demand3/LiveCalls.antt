@@ -14,7 +14,7 @@ use Rattle.seats.specs.Radio.{sidedBench, sideRefusals, sideSaid}
 use Rattle.bench.specs.Step.{Call, opening, closing, tick, side, Said, done, own, ticked, Outcome, outcome, step}
 use Rattle.record.specs.declared.setup.Setup.{Setup}
 use Rattle.record.specs.declared.seat.Seat.{Seat}
-use Rattle.record.specs.declared.bench.Bench.{Bench}
+use Rattle.record.specs.declared.whole.Bench.{Bench}
 use Rattle.seats.specs.declared.opening.Request.{Request}
 use Rattle.demands.specs.Apart.{named, pttOf, liveAboveTest, amongLive, fixed}
 use Rattle.demands.proofs.Demand3.Blanking.{blank, set-elsewhere, map-blank, blank-elsewhere}

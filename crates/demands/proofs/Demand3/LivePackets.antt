@@ -12,7 +12,7 @@ use Rattle.air.specs.Air.{keyings}
 use Rattle.bench.specs.Hearing.{messageIn, messageRefusals, packetRefusals, fieldHeard, heardSeat, heardBench, isSent, hearing, packetSaid, audioIn}
 use Rattle.bench.specs.Step.{packet, heard, told, step}
 use Rattle.record.specs.declared.seat.Seat.{Seat}
-use Rattle.record.specs.declared.bench.Bench.{Bench}
+use Rattle.record.specs.declared.whole.Bench.{Bench}
 use Rattle.demands.specs.Apart.{named, pttOf, liveAboveTest, fixed}
 use Rattle.packet.proofs.Judged.{accepts, judged-one}
 use Rattle.bench.proofs.Accepted.{PacketAccepted, packet-accepted}

@@ -20,7 +20,7 @@ use Rattle.air.specs.Air.{benchAir}
 use Rattle.bench.specs.Reporting.{squTold, sctTold, sqiTold, sideTold, reportOf, reportBytes, reportRefusals, reportSaid, reportedBench}
 use Rattle.bench.specs.Step.{report, written, step}
 use Rattle.record.specs.declared.seat.Seat.{Seat}
-use Rattle.record.specs.declared.bench.Bench.{Bench}
+use Rattle.record.specs.declared.whole.Bench.{Bench}
 use Rattle.demands.specs.Apart.{liveAboveTest, blotted, fixed}
 use Rattle.demands.proofs.Demand3.Blanking.{set-elsewhere}
 use Rattle.demands.proofs.Demand3.Blotted.{calm, blotted-calm}

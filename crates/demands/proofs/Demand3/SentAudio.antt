@@ -14,8 +14,8 @@ use Rattle.record.specs.Record.{seatNumbers, noSuchSeat, closedSeat, seatOf, le
 use Rattle.air.specs.Air.{rank, keyed, takesPart, Keying, keyingsOf, keyings, onAir, among, airOf, benchAir}
 use Rattle.bench.specs.Hearing.{messageIn, fieldHeard, heardSeat, heardBench, isSent}
 use Rattle.record.specs.declared.seat.Seat.{Seat}
-use Rattle.record.specs.declared.bench.Bench.{Bench}
-use Rattle.record.specs.declared.air.Air.{Air}
+use Rattle.record.specs.declared.whole.Bench.{Bench}
+use Rattle.record.specs.declared.shown.Air.{Air}
 use Rattle.demands.specs.Apart.{pttOf}
 use Rattle.demands.proofs.Demand3.Blanking.{set-elsewhere}
 use Rattle.bench.proofs.Accepted.{PacketAccepted}

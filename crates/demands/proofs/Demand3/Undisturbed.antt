@@ -12,7 +12,7 @@ use Rattle.bench.specs.Hearing.{packetSaid}
 use Rattle.bench.specs.Reporting.{reportBytes, reportRefusals, reportSaid, reportedBench}
 use Rattle.bench.specs.Step.{Call, packet, report, Said, done, own, heard, ticked, written, told, step, after}
 use Rattle.record.specs.declared.setup.Setup.{Setup}
-use Rattle.record.specs.declared.bench.Bench.{Bench}
+use Rattle.record.specs.declared.whole.Bench.{Bench}
 use Rattle.demands.specs.Apart.{named, withoutLessons, pttOf, liveAboveTest, fixed, compared, Apart}
 use Rattle.demands.specs.Undisturbed.{audioSent, Undisturbed}
 use Rattle.packet.proofs.Judged.{judged-one}

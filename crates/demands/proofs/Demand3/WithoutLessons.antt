@@ -11,7 +11,7 @@ use Rattle.air.specs.Order.{toLast, begins, orderAfter}
 use Rattle.record.specs.declared.setup.Setup.{Setup}
 use Rattle.record.specs.declared.seat.Field.{Field}
 use Rattle.record.specs.declared.seat.Seat.{Seat}
-use Rattle.record.specs.declared.bench.Bench.{Bench}
+use Rattle.record.specs.declared.whole.Bench.{Bench}
 use Rattle.record.proofs.Seats.{lesson-flag, seat-of-place}
 use Rattle.demands.proofs.Demand3.Blanking.{blank, blank-elsewhere}
 

@@ -11,7 +11,7 @@ use Rattle.bench.specs.Hearing.{audioIn}
 use Rattle.bench.specs.Reporting.{reportRefusals, reportSaid, reportBytes, reportBuffer}
 use Rattle.bench.specs.Step.{own, done, told, written, step}
 use Rattle.bench.specs.declared.hearing.Hearing.{Hearing}
-use Rattle.record.specs.declared.bench.Bench.{Bench}
+use Rattle.record.specs.declared.whole.Bench.{Bench}
 use Rattle.demands.specs.StepOfCode.{did, wasDone, tickedSets, heardWith, inFront, StepOfCode}
 use Rattle.packet.proofs.Judged.{judged-one}
 

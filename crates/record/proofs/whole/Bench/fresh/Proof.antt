@@ -1,7 +1,7 @@
 use Rattle.record.specs.Record.{freshBench}
 use Rattle.record.proofs.RecordLaws.{recordCases}
-use Rattle.record.proofs.bench.Bench.fresh.Statement.{statement}
-use Rattle.record.proofs.bench.Bench.fresh.Tie as tie
+use Rattle.record.proofs.whole.Bench.fresh.Statement.{statement}
+use Rattle.record.proofs.whole.Bench.fresh.Tie as tie
 
 returns : tie.Need-returns
 unfolding freshBench
