@@ -13,28 +13,28 @@ use Rattle.packet.specs.declared.message.Direction.the-variants as direction
 use Rattle.packet.proofs.Judged.{none-of-both}
 use Rattle.reader.proofs.Passed.{Passed, passed, field-passed}
 use Rattle.record.specs.Record.{noSuchSeat, seatOf, lesson}
-use Rattle.seats.specs.Opening.{ownId}
+use Rattle.seats.specs.Opening.{ownId, seatRefusals}
 use Rattle.bench.specs.Hearing.{keyingBarred, idAllowed, sideBarred, messageIn, messageRefusals, packetRefusals}
 use Rattle.bench.specs.Reporting.{audioBarred, reportBytes, reportRefusals}
 use Rattle.record.specs.declared.setup.Setup.{Setup}
 use Rattle.record.specs.declared.seat.Seat.{Seat}
 use Rattle.record.specs.declared.whole.Bench.{Bench}
 
-pub record PacketAccepted (setup : Setup) (n : ℕ) (seats : List Seat) (p : List ℕ) : Type 0 where
+pub record PacketAccepted (setup : Setup) (n : ℕ) (s : Seat) (p : List ℕ) : Type 0 where
   pub is-seat : noSuchSeat n ≡ false
-  pub was-open : seatOf seats n .opened ≡ true
+  pub was-open : s .opened ≡ true
   pub was-read : Passed direction.Tx (setup .ext) p
-  pub same-ssrc : otherSsrc (seatOf seats n .heard .any) (seatOf seats n .heard .ssrc) (messageIn p .ssrc) ≡ false
-  pub not-late : late (seatOf seats n .heard .any) (seatOf seats n .heard .sequence) (messageIn p .sequence) ≡ false
-  pub may-key : keyingBarred (lesson setup n) (seatOf seats n .call) (messageIn p) ≡ false
-  pub id-allowed : idAllowed (ownId n (seatOf seats n .call)) (messageIn p) ≡ true
+  pub same-ssrc : otherSsrc (s .heard .any) (s .heard .ssrc) (messageIn p .ssrc) ≡ false
+  pub not-late : late (s .heard .any) (s .heard .sequence) (messageIn p .sequence) ≡ false
+  pub may-key : keyingBarred (lesson setup n) (s .call) (messageIn p) ≡ false
+  pub id-allowed : idAllowed (ownId n (s .call)) (messageIn p) ≡ true
   pub may-ask-side : sideBarred (lesson setup n) (setup .pair) (messageIn p) ≡ false
 
-pub packet-accepted : (setup : Setup) (n : ℕ) (seats : List Seat) (p : List ℕ) → NoCase (packetRefusals setup n seats p) → PacketAccepted setup n seats p
-unfolding packetRefusals messageRefusals
-packet-accepted setup n seats p none =
+pub packet-accepted : (setup : Setup) (n : ℕ) (s : Seat) (p : List ℕ) → NoCase (packetRefusals setup n s p) → PacketAccepted setup n s p
+unfolding packetRefusals messageRefusals seatRefusals
+packet-accepted setup n s p none =
     let reader = readerRefusals direction.Tx (setup .ext) p in
-    let rest = none-of-both reader (messageRefusals setup n (seatOf seats n) (messageIn p)) (none .1 .1) in
+    let rest = none-of-both reader (messageRefusals setup n s (messageIn p)) (none .1 .1) in
     record {
       is-seat = none .0;
       was-open = not-false _ (none .1 .0);
@@ -54,7 +54,7 @@ pub record ReportAccepted (b : Bench) (n timestamp : ℕ) (sound : List ℕ) (ro
 
 pub report-accepted : (b : Bench) (n timestamp : ℕ) (sound : List ℕ) (room : ℕ) → NoCase (reportRefusals b n timestamp sound room)
     → ReportAccepted b n timestamp sound room
-unfolding reportRefusals
+unfolding reportRefusals seatRefusals
 report-accepted b n timestamp sound room none =
     record {
       is-seat = none .0;

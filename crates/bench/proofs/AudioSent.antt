@@ -13,18 +13,19 @@ use Rattle.packet.specs.Packet.{payload, payloadAt}
 use Rattle.packet.specs.Refusals.{NoCase, accepted}
 use Rattle.packet.proofs.Judged.{meets-none}
 use Rattle.reader.proofs.Passed.{payload-length}
+use Rattle.record.specs.Record.{seatOf}
 use Rattle.bench.specs.Hearing.{messageIn, packetRefusals, packetSaid, hearing, isSent, audioIn}
 use Rattle.record.specs.declared.whole.Bench.{Bench}
 use Rattle.bench.specs.declared.hearing.Hearing.{Hearing}
 use Rattle.bench.proofs.Accepted.{packet-accepted}
 
 module _ (b : Bench) (n : ℕ) (p : List ℕ) (h : Hearing) (e : packetSaid b n p ≡ accepted h) where
-  passed : NoCase (packetRefusals (b .setup) n (b .seats) p) × (hearing b n p ≡ h)
+  passed : NoCase (packetRefusals (b .setup) n (seatOf (b .seats) n) p) × (hearing b n p ≡ h)
   unfolding packetSaid
-  passed = meets-none (packetRefusals (b .setup) n (b .seats) p) (hearing b n p) h e
+  passed = meets-none (packetRefusals (b .setup) n (seatOf (b .seats) n) p) (hearing b n p) h e
 
   in-packet : payloadAt p ≤ length p
-  in-packet = packet-accepted (b .setup) n (b .seats) p (passed .0) .was-read .words-end
+  in-packet = packet-accepted (b .setup) n (seatOf (b .seats) n) p (passed .0) .was-read .words-end
 
   by-air : (sent : Bool)
       → cond (leb (cond sent (payloadAt p) 0 + cond sent (length (payload p)) 0) (length p))

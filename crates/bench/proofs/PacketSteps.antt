@@ -1,11 +1,14 @@
 -- The packet's call in steps: 13 and 14, then the reader's 1 to 12, then 19 to 23 of the message.
 use Prim.Native.Nat.{ℕ, _+_, _≤_, _<_, min}
 use mathlib.Core.Path.{_≡_, ap, sym, _∙_}
+use mathlib.Core.Bool.{Bool, cond, not}
 use mathlib.Core.List.{List, [], _++_}
 use native.Mathlib.Omega.{arith}
 use borrow.Author.Tests.{le-leb, lt-leb}
 use lib.ListN.{length}
 use Rattle.base.specs.Bytes.{partOf}
+use Rattle.base.specs.Order.{missing}
+use Rattle.packet.specs.Packet.{payload, payloadAt}
 use Rattle.packet.specs.Refusals.{Case, NoCase, Answer, accepted, refusal, verdictOf, judged, mapped, andThen}
 use Rattle.reader.specs.Reading.{readerRefusals, messageOf, asTx, read, readTx, txAnswer}
 use Rattle.packet.specs.declared.message.Direction.the-variants as direction
@@ -16,16 +19,17 @@ use Rattle.packet.specs.declared.refusal.Verdict.the-variants.{Fine, Refused}
 use Rattle.reader.specs.declared.reading.TxRead.{TxRead}
 use Rattle.reader.specs.declared.reading.TxRead.the-variants as tx
 use Rattle.packet.proofs.Judged.{judged-mapped, by-verdict, meets-none, judged-split}
-use Rattle.reader.proofs.Passed.{Passed, passed, length-most}
-use Rattle.record.specs.Record.{seatOf, settled}
-use Rattle.seats.specs.Opening.{closeRefusals, seatVerdict}
-use Rattle.bench.specs.Hearing.{messageIn, messageRefusals, packetRefusals, packetSaid, heardBench, hearing, isSent, audioIn, audioAt, isOnAir, hearingOf}
-use Rattle.bench.specs.Pieces.{Whole, messageVerdict, messageSaid}
-use Rattle.bench.specs.Answers.{packetAnswer}
+use Rattle.reader.proofs.Passed.{Passed, length-most}
+use Rattle.record.specs.Record.{seatOf}
+use Rattle.seats.specs.Opening.{seatRefusals, seatVerdict}
+use Rattle.bench.specs.Hearing.{fieldHeard, messageIn, messageRefusals, packetRefusals, packetSaid, heardBench, sameField, isOnAir, isSent, hearing, audioIn, audioAt}
+use Rattle.bench.specs.Pieces.{Whole, messageVerdict, letIn, admitted}
+use Rattle.record.specs.declared.setup.Setup.{Setup}
+use Rattle.record.specs.declared.seat.Field.{Field}
+use Rattle.record.specs.declared.seat.Seat.{Seat}
 use Rattle.record.specs.declared.whole.Bench.{Bench}
 use Rattle.bench.specs.declared.hearing.Hearing.{Hearing}
-use Rattle.bench.specs.declared.hearing.PacketAnswer.the-variants as answer
-use Rattle.bench.specs.declared.hearing.Packeted.{Packeted}
+use Rattle.bench.proofs.Accepted.{PacketAccepted, packet-accepted}
 
 -- ---- what passing a test leaves
 
@@ -47,59 +51,81 @@ module _ (ext : ℕ) (p : List ℕ) where
   read-verdict = sym (judged-mapped passes readers (messageIn p)) ∙ ap (mapped passes) (sym read-judged)
 
   module _ {t : TxRead} {m : Tx} (f : t ≡ tx.Message m) (e : txAnswer t ≡ readTx ext p) where
-    met : NoCase readers × (messageIn p ≡ m)
-    met = meets-none readers (messageIn p) m (sym read-judged ∙ sym e ∙ ap txAnswer f)
-
-    pub read-said : messageIn p ≡ m
-    read-said = met .1
-
-    pub read-whole : Whole p
-    read-whole = whole ext p (passed direction.Tx ext p (met .0))
+    read-said : messageIn p ≡ m
+    read-said = meets-none readers (messageIn p) m (sym read-judged ∙ sym e ∙ ap txAnswer f) .1
 
 -- ---- the steps joined
 
-module _ (b : Bench) (n : ℕ) (p : List ℕ) where
-  in-steps : packetSaid b n p ≡ andThen (andThen (seatVerdict n (b .seats)) (mapped passes (readTx (b .setup .ext) p))) (messageSaid b n (messageIn p) p)
-  unfolding packetSaid packetRefusals seatVerdict closeRefusals messageSaid hearing isSent
+module _ (setup : Setup) (n : ℕ) (s : Seat) (p : List ℕ) where
+  in-steps : admitted setup n s p ≡ andThen (andThen (seatVerdict n (s .opened)) (mapped passes (readTx (setup .ext) p))) (letIn setup n s (messageIn p))
+  unfolding admitted packetRefusals seatVerdict letIn
   in-steps =
-      judged-split (closeRefusals n (b .seats) ++ readers (b .setup .ext) p) (messageRefusals (b .setup) n (seatOf (b .seats) n) (messageIn p)) (hearing b n p)
-      ∙ ap (λ (v : Answer (Unit {0})). andThen v (messageSaid b n (messageIn p) p))
-      (judged-split (closeRefusals n (b .seats)) (readers (b .setup .ext) p) tt ∙ ap (andThen (seatVerdict n (b .seats))) (read-verdict (b .setup .ext) p))
+      judged-split (seatRefusals n (s .opened) ++ readers (setup .ext) p) (messageRefusals setup n s (messageIn p)) (messageIn p)
+      ∙ ap (λ (v : Answer (Unit {0})). andThen v (letIn setup n s (messageIn p)))
+      (judged-split (seatRefusals n (s .opened)) (readers (setup .ext) p) tt ∙ ap (andThen (seatVerdict n (s .opened))) (read-verdict (setup .ext) p))
 
-  module _ {v : Verdict} (e : verdictOf v ≡ seatVerdict n (b .seats)) where
-    pub said-by-seat : {r : Refusal} → v ≡ Refused r → packetSaid b n p ≡ refusal r
-    said-by-seat f = in-steps ∙ simp (← e, f)
+  module _ {v : Verdict} (e : verdictOf v ≡ seatVerdict n (s .opened)) where
+    pub by-seat : {r : Refusal} → v ≡ Refused r → refusal r ≡ admitted setup n s p
+    by-seat f = sym (in-steps ∙ simp (← e, f))
 
-    module _ {t : TxRead} (fine : v ≡ Fine) (k : txAnswer t ≡ readTx (b .setup .ext) p) where
-      pub said-by-reader : {r : Refusal} → t ≡ tx.Refused r → packetSaid b n p ≡ refusal r
-      said-by-reader f = in-steps ∙ simp (← e, fine, ← k, f)
+    module _ {t : TxRead} (fine : v ≡ Fine) (k : txAnswer t ≡ readTx (setup .ext) p) where
+      pub by-reader : {r : Refusal} → t ≡ tx.Refused r → refusal r ≡ admitted setup n s p
+      by-reader f = sym (in-steps ∙ simp (← e, fine, ← k, f))
 
-      pub said-by-message : {m : Tx} → t ≡ tx.Message m → packetSaid b n p ≡ messageSaid b n m p
-      said-by-message f = in-steps ∙ simp (← e, fine, ← k, f, read-said (b .setup .ext) p f k)
+      pub by-message : {m : Tx} → t ≡ tx.Message m → letIn setup n s m ≡ admitted setup n s p
+      by-message f = sym (in-steps ∙ simp (← e, fine, ← k, f, read-said (setup .ext) p f k))
 
-  abbrev told : Tx → Hearing
-  told m = hearingOf (seatOf (b .seats) n) (heardBench b n m) (isOnAir (heardBench b n m) n) m p
+module _ (setup : Setup) (n : ℕ) (s : Seat) (m : Tx) where
+  decided : letIn setup n s m ≡ mapped (λ (u : Unit {0}). m) (messageVerdict setup n s m)
+  unfolding messageVerdict letIn
+  decided = by-verdict (messageRefusals setup n s m) m
 
-  decided : (m : Tx) → messageSaid b n m p ≡ mapped (λ (u : Unit {0}). told m) (messageVerdict (b .setup) n (seatOf (b .seats) n) m)
-  unfolding messageVerdict messageSaid
-  decided m = by-verdict (messageRefusals (b .setup) n (seatOf (b .seats) n) m) (told m)
+  module _ {v : Verdict} (e : verdictOf v ≡ messageVerdict setup n s m) where
+    pub message-refused : {r : Refusal} → v ≡ Refused r → refusal r ≡ letIn setup n s m
+    message-refused f = sym (decided ∙ simp (← e, f))
 
-  module _ (m : Tx) {v : Verdict} (e : verdictOf v ≡ messageVerdict (b .setup) n (seatOf (b .seats) n) m) where
-    pub message-refused : {r : Refusal} → v ≡ Refused r → messageSaid b n m p ≡ refusal r
-    message-refused f = decided m ∙ simp (← e, f)
+    pub message-taken : v ≡ Fine → accepted m ≡ letIn setup n s m
+    message-taken f = sym (decided ∙ simp (← e, f))
 
-    pub message-accepted : v ≡ Fine → messageSaid b n m p ≡ accepted (told m)
-    message-accepted f = decided m ∙ simp (← e, f)
+-- ---- the whole call, by what was admitted
 
-  -- the bench after a message that was read
-  pub left-by-message : (m : Tx) (said : Answer Hearing) → packetSaid b n p ≡ said → messageIn p ≡ m
-      → settled said b (heardBench b n m) ≡ settled (packetSaid b n p) b (heardBench b n (messageIn p))
-  left-by-message m said e f = cc
+module _ (b : Bench) (n : ℕ) (p : List ℕ) (s : Seat) (here : s ≡ seatOf (b .seats) n) (t : TxRead) (told : txAnswer t ≡ admitted (b .setup) n s p) where
+  abbrev refusals : List Case
+  refusals = packetRefusals (b .setup) n (seatOf (b .seats) n) p
 
--- a refusal: its number, and the bench as it was
-pub turned : (said : Answer Hearing) (before after : Bench) (o : Packeted) (r : Refusal) → (o .bench ≡ before) × (o .answer ≡ answer.Refused r) → said ≡ refusal r
-    → (packetAnswer (o .answer) ≡ said) × (o .bench ≡ settled said before after)
-turned said before after o r h e = (simp (h .1, e), simp (h .0, e))
+  judged-here : judged refusals (messageIn p) ≡ txAnswer t
+  unfolding admitted
+  judged-here = sym (told ∙ ap (λ (z : Seat). admitted (b .setup) n z p) here)
+
+  pub packet-refused : {r : Refusal} → t ≡ tx.Refused r → packetSaid b n p ≡ refusal r
+  unfolding packetSaid
+  packet-refused {r} f =
+      sym (judged-mapped (λ (m : Tx). hearing b n p) refusals (messageIn p)) ∙ ap (mapped (λ (m : Tx). hearing b n p)) (judged-here ∙ ap txAnswer f)
+
+  module _ {m : Tx} (f : t ≡ tx.Message m) where
+    met : NoCase refusals × (messageIn p ≡ m)
+    met = meets-none refusals (messageIn p) m (judged-here ∙ ap txAnswer f)
+
+    pub says : messageIn p ≡ m
+    says = met .1
+
+    pub taken : PacketAccepted (b .setup) n (seatOf (b .seats) n) p
+    taken = packet-accepted (b .setup) n (seatOf (b .seats) n) p (met .0)
+
+    pub is-whole : Whole p
+    is-whole = whole (b .setup .ext) p (taken .was-read)
+
+    pub packet-said : packetSaid b n p ≡ accepted (hearing b n p)
+    unfolding packetSaid
+    packet-said = sym (judged-mapped (λ (m : Tx). hearing b n p) refusals (messageIn p)) ∙ ap (mapped (λ (m : Tx). hearing b n p)) (judged-here ∙ ap txAnswer f)
+
+-- what the call answers, from what the functions that it calls answered
+pub hearing-told : (b : Bench) (n : ℕ) (p : List ℕ) {s : Seat} {m : Tx} {after : Bench} {sent same : Bool} {new : Field} {lost at long : ℕ}
+    → s ≡ seatOf (b .seats) n → messageIn p ≡ m → after ≡ heardBench b n m → sent ≡ isOnAir after n → new ≡ fieldHeard m → same ≡ sameField (s .heard .field) new
+    → lost ≡ missing (s .heard .any) (s .heard .sequence) (m .sequence) → at ≡ cond sent (payloadAt p) 0 → long ≡ cond sent (length (payload p)) 0
+    → _≡_ {A = Hearing} (record { missing = lost; reply = not same; standby = after .standby; at = at; length = long }) (hearing b n p)
+unfolding hearing isSent
+hearing-told b n p seen is left air field compared count place size = simp (size, place, count, compared, field, air, left, ← is, seen)
 
 -- ---- the audio in the packet
 

@@ -19,12 +19,11 @@ use Rattle.packet.specs.declared.refusal.Verdict.{Verdict}
 use Rattle.packet.specs.declared.refusal.Verdict.the-variants.{Fine, Refused}
 use Rattle.packet.proofs.QualityLaws.{quality-most}
 use Rattle.packet.proofs.Judged.{meets-none, judged-split}
-use Rattle.record.specs.Record.{noSuchSeat}
-use Rattle.seats.specs.Opening.{closeRefusals, seatVerdict}
+use Rattle.record.specs.Record.{noSuchSeat, seatOf}
+use Rattle.seats.specs.Opening.{seatRefusals, seatVerdict}
 use Rattle.air.specs.Air.{benchAir}
 use Rattle.bench.specs.Reporting.{idTold, squTold, sqiTold, audioBarred, reportOf, reportBytes, reportRefusals, reportSaid, reportBuffer}
 use Rattle.bench.specs.Pieces.{reportVerdict}
-use Rattle.record.specs.declared.seat.Seat.{Seat}
 use Rattle.record.specs.declared.whole.Bench.{Bench}
 use Rattle.record.proofs.Seats.{seat-in-range}
 use Rattle.air.proofs.Bounds.{ptt-most, id-most}
@@ -55,44 +54,44 @@ report-writable b n timestamp audio h e =
 
 -- ---- the steps joined
 
-module _ (n : ℕ) (seats : List Seat) (signals audio : ℕ) where
-  pub report-passed : {v : Verdict} → v ≡ Fine → verdictOf v ≡ reportVerdict n seats signals audio → (noSuchSeat n ≡ false) × (audioBarred signals audio ≡ false)
-  unfolding reportVerdict closeRefusals
+module _ (n : ℕ) (opened : Bool) (signals audio : ℕ) where
+  pub report-passed : {v : Verdict} → v ≡ Fine → verdictOf v ≡ reportVerdict n opened signals audio → (noSuchSeat n ≡ false) × (audioBarred signals audio ≡ false)
+  unfolding reportVerdict seatRefusals
   report-passed f e =
-      let none = meets-none (closeRefusals n seats ++ (25 if audioBarred signals audio ∷ [])) tt tt (sym e ∙ ap verdictOf f) .0 in
+      let none = meets-none (seatRefusals n opened ++ (25 if audioBarred signals audio ∷ [])) tt tt (sym e ∙ ap verdictOf f) .0 in
       (none .0, none .1 .1 .0)
 
-  verdict-in-steps : reportVerdict n seats signals audio ≡ andThen (seatVerdict n seats) (judged (25 if audioBarred signals audio ∷ []) tt)
+  verdict-in-steps : reportVerdict n opened signals audio ≡ andThen (seatVerdict n opened) (judged (25 if audioBarred signals audio ∷ []) tt)
   unfolding reportVerdict seatVerdict
-  verdict-in-steps = judged-split (closeRefusals n seats) (25 if audioBarred signals audio ∷ []) tt
+  verdict-in-steps = judged-split (seatRefusals n opened) (25 if audioBarred signals audio ∷ []) tt
 
-  module _ {v : Verdict} (e : verdictOf v ≡ seatVerdict n seats) where
-    pub by-seat : {r : Refusal} → v ≡ Refused r → refusal r ≡ reportVerdict n seats signals audio
+  module _ {v : Verdict} (e : verdictOf v ≡ seatVerdict n opened) where
+    pub by-seat : {r : Refusal} → v ≡ Refused r → refusal r ≡ reportVerdict n opened signals audio
     by-seat f = sym (verdict-in-steps ∙ simp (← e, f))
 
     pub by-audio : (barred : Bool) → v ≡ Fine → audioBarred signals audio ≡ barred
-        → cond barred (refused 25 0) (accepted tt) ≡ reportVerdict n seats signals audio
+        → cond barred (refused 25 0) (accepted tt) ≡ reportVerdict n opened signals audio
     by-audio barred f g = sym (verdict-in-steps ∙ simp (← e, f, g))
 
 module _ (b : Bench) (n timestamp : ℕ) (sound : List ℕ) (room : ℕ) where
   in-steps : reportSaid b n timestamp sound room
-      ≡ andThen (reportVerdict n (b .seats) (b .signals) (length sound))
+      ≡ andThen (reportVerdict n (seatOf (b .seats) n .opened) (b .signals) (length sound))
       (judged (26 if ltb room (length (reportBytes b n timestamp sound)) ∷ []) (length (reportBytes b n timestamp sound)))
-  unfolding reportSaid reportRefusals reportVerdict closeRefusals
+  unfolding reportSaid reportRefusals reportVerdict seatRefusals
   in-steps =
-      judged-split (closeRefusals n (b .seats) ++ (25 if audioBarred (b .signals) (length sound) ∷ []))
+      judged-split (seatRefusals n (seatOf (b .seats) n .opened) ++ (25 if audioBarred (b .signals) (length sound) ∷ []))
       (26 if ltb room (length (reportBytes b n timestamp sound)) ∷ []) (length (reportBytes b n timestamp sound))
 
-  module _ {v : Verdict} (e : verdictOf v ≡ reportVerdict n (b .seats) (b .signals) (length sound)) where
+  module _ {opened : Bool} {v : Verdict} (here : opened ≡ seatOf (b .seats) n .opened) (told : verdictOf v ≡ reportVerdict n opened (b .signals) (length sound)) where
     pub report-refused : {r : Refusal} → v ≡ Refused r → reportSaid b n timestamp sound room ≡ refusal r
-    report-refused f = in-steps ∙ simp (← e, f)
+    report-refused f = in-steps ∙ simp (← here, ← told, f)
 
     pub report-written : v ≡ Fine → reportSaid b n timestamp sound room ≡ write (b .setup .ext) (fromRx (reportOf b n timestamp)) sound room
     unfolding reportBytes write writerRefusals
     report-written f =
-        let passed = report-passed n (b .seats) (b .signals) (length sound) f e in
+        let passed = report-passed n opened (b .signals) (length sound) f told in
         let fine = report-writable b n timestamp (length sound) (passed .0) (passed .1) in
-        in-steps ∙ simp (← e, f, fine)
+        in-steps ∙ simp (← here, ← told, f, fine)
 
 module _ (b : Bench) (n timestamp : ℕ) (sound buffer : List ℕ) where
   pub buffer-kept : {k cause : ℕ} → reportSaid b n timestamp sound (length buffer) ≡ refused k cause → reportBuffer b n timestamp sound buffer ≡ buffer

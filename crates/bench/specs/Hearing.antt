@@ -15,8 +15,8 @@ use Rattle.packet.specs.declared.message.ClimaxItem.the-variants as climax
 use Rattle.packet.specs.declared.message.SideItem.{SideItem}
 use Rattle.packet.specs.declared.message.SideItem.the-variants as side
 use Rattle.packet.specs.declared.message.Tx.{Tx}
-use Rattle.record.specs.Record.{noSuchSeat, seatOf, lesson}
-use Rattle.seats.specs.Opening.{isTxRx, mayKey, ownId}
+use Rattle.record.specs.Record.{seatOf, lesson, withSeat, withOrder, withSide}
+use Rattle.seats.specs.Opening.{isTxRx, mayKey, ownId, seatRefusals}
 use Rattle.air.specs.Air.{benchAir}
 use Rattle.air.specs.Order.{orderAfter}
 use Rattle.record.specs.declared.setup.Setup.{Setup}
@@ -91,11 +91,9 @@ messageRefusals setup n s m =
     ∷ []
 
 -- "Packet 13, 14, 1 to 12, 19 to 23."
-unfoldable pub packetRefusals : Setup → (n : ℕ) → List Seat → List ℕ → List Case
-packetRefusals setup n seats p =
-    (13 if noSuchSeat n ∷ 14 if not (seatOf seats n .opened) ∷ [])
-    ++ readerRefusals direction.Tx (setup .ext) p
-    ++ messageRefusals setup n (seatOf seats n) (messageIn p)
+unfoldable pub packetRefusals : Setup → (n : ℕ) → Seat → List ℕ → List Case
+packetRefusals setup n s p =
+    seatRefusals n (s .opened) ++ readerRefusals direction.Tx (setup .ext) p ++ messageRefusals setup n s (messageIn p)
 
 -- "Opening and each accepted packet set a seat's time left to period times multiplier ms." (A packet, here.)
 unfoldable pub heardSeat : Seat → Tx → Seat
@@ -119,18 +117,12 @@ takesEffect old new = new .sided && not (old .sided && Bool·beq (old .standby) 
 unfoldable pub sideAfter : (old new : Field) → (inUse : Bool) → Bool
 sideAfter old new inUse = cond (takesEffect old new) (new .standby) inUse
 
+-- The bench after an accepted message: its seat, the order of keyings, and the side in use.
 unfoldable pub heardBench : Bench → (n : ℕ) → Tx → Bench
 heardBench b n m =
-    record {
-      setup = b .setup;
-      seats = set (b .seats) (n - 1) (heardSeat (seatOf (b .seats) n) m);
-      sequences = b .sequences;
-      order = orderAfter n (seatOf (b .seats) n .heard .field) (fieldHeard m) (b .order);
-      standby = sideAfter (seatOf (b .seats) n .heard .field) (fieldHeard m) (b .standby);
-      healthy = b .healthy;
-      signals = b .signals;
-      level = b .level;
-    }
+    let before = seatOf (b .seats) n in
+    let old = before .heard .field in
+    withSide (withOrder (withSeat b n (heardSeat before m)) (orderAfter n old (fieldHeard m) (b .order))) (sideAfter old (fieldHeard m) (b .standby))
 
 -- "Reply now exactly when the field with its items differs in meaning from the seat's previous accepted one."
 unfoldable pub sameField : (old new : Field) → Bool
@@ -148,21 +140,20 @@ isSent b n m = isOnAir (heardBench b n m) n
 
 -- "Accepted, it answers: packets missing before it, whether to reply now, the side in use after it, and the audio to send"
 -- (where the audio lies in the packet: its payload, empty for R2S, if the seat is on the air after it; else nothing at place 0)
-abbrev pub hearingOf : (before : Seat) (after : Bench) (sent : Bool) → Tx → List ℕ → Hearing
-hearingOf before after sent m p =
+unfoldable pub hearing : Bench → (n : ℕ) → List ℕ → Hearing
+hearing b n p =
+    let m = messageIn p in
+    let before = seatOf (b .seats) n .heard in
     record {
-      missing = missing (before .heard .any) (before .heard .sequence) (m .sequence);
-      reply = not (sameField (before .heard .field) (fieldHeard m));
-      standby = after .standby;
-      at = cond sent (payloadAt p) 0;
-      length = cond sent (length (payload p)) 0;
+      missing = missing (before .any) (before .sequence) (m .sequence);
+      reply = not (sameField (before .field) (fieldHeard m));
+      standby = heardBench b n m .standby;
+      at = cond (isSent b n m) (payloadAt p) 0;
+      length = cond (isSent b n m) (length (payload p)) 0;
     }
 
-unfoldable pub hearing : Bench → (n : ℕ) → List ℕ → Hearing
-hearing b n p = hearingOf (seatOf (b .seats) n) (heardBench b n (messageIn p)) (isSent b n (messageIn p)) (messageIn p) p
-
 unfoldable pub packetSaid : Bench → (n : ℕ) → List ℕ → Answer Hearing
-packetSaid b n p = judged (packetRefusals (b .setup) n (b .seats) p) (hearing b n p)
+packetSaid b n p = judged (packetRefusals (b .setup) n (seatOf (b .seats) n) p) (hearing b n p)
 
 -- ".. which is the payload inside the caller's own packet, or an empty part" (also where answer and packet don't fit)
 unfoldable pub audioIn : Answer Hearing → List ℕ → List ℕ

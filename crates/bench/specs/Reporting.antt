@@ -1,7 +1,7 @@
 -- 01, Report to a seat.
 use Prim.Native.Nat.{ℕ, _+_, _-_, _%_}
 use mathlib.Core.Bool.{Bool, false, cond, not, _&&_, _||_}
-use mathlib.Core.List.{List, [], _∷_}
+use mathlib.Core.List.{List, [], _∷_, _++_}
 use lib.Dec.{ltb, leb, eqb}
 use lib.IntN.{ℤ}
 use lib.ListN.{length, getD}
@@ -14,7 +14,8 @@ use Rattle.packet.specs.declared.message.SqiItem.the-variants as sqi
 use Rattle.packet.specs.declared.message.SideItem.{SideItem}
 use Rattle.packet.specs.declared.message.SideItem.the-variants as side
 use Rattle.packet.specs.declared.message.Rx.{Rx}
-use Rattle.record.specs.Record.{noSuchSeat, seatOf, withSequence}
+use Rattle.record.specs.Record.{seatOf, withSequence}
+use Rattle.seats.specs.Opening.{seatRefusals}
 use Rattle.air.specs.Air.{benchAir}
 use Rattle.record.specs.declared.whole.Bench.{Bench}
 use Rattle.record.specs.declared.shown.Air.{Air}
@@ -61,17 +62,16 @@ unfoldable pub reportBytes : Bench → (n timestamp : ℕ) → (audio : List ℕ
 reportBytes b n timestamp sound = encode (b .setup .ext) (fromRx (reportOf b n timestamp)) sound
 
 -- "25 | report audio not 0, 80, 160 or 240 bytes, or audio while SQU is 0"
-abbrev pub audioBarred : (signals length : ℕ) → Bool
+abbrev pub audioBarred : (signals audio : ℕ) → Bool
 audioBarred signals n = not (audioWritable n) || (not (squTold signals) && not (eqb n 0))
 
 -- "Report 13, 14, 25, 26."
 unfoldable pub reportRefusals : Bench → (n timestamp : ℕ) → (audio : List ℕ) → (room : ℕ) → List Case
 reportRefusals b n timestamp sound room =
-    13 if noSuchSeat n
-    ∷ 14 if not (seatOf (b .seats) n .opened)
-    ∷ 25 if audioBarred (b .signals) (length sound)
+    seatRefusals n (seatOf (b .seats) n .opened)
+    ++ (25 if audioBarred (b .signals) (length sound)
     ∷ 26 if ltb room (length (reportBytes b n timestamp sound))
-    ∷ []
+    ∷ [])
 
 -- "The answer is its length in bytes. Bytes past its length stay."
 unfoldable pub reportSaid : Bench → (n timestamp : ℕ) → (audio : List ℕ) → (room : ℕ) → Answer ℕ

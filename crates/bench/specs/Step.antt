@@ -4,10 +4,10 @@ use mathlib.Core.Bool.{Bool, true, false, cond}
 use mathlib.Core.List.{List, [], _∷_}
 use lib.IntN.{ℤ}
 use Rattle.packet.specs.Refusals.{Answer, accepted, refused, mapped}
-use Rattle.record.specs.Record.{settled}
+use Rattle.record.specs.Record.{settled, withSignals, withHealth, withSide}
 use Rattle.seats.specs.Opening.{openSaid, openedBench, closeSaid, closedBench}
 use Rattle.seats.specs.Ticking.{tickSaid, tickSets, tickedBench}
-use Rattle.seats.specs.Radio.{receivedBench, transmitterBench, sidedBench, sideSaid}
+use Rattle.seats.specs.Radio.{sideSaid}
 use Rattle.bench.specs.Hearing.{packetSaid, heardBench, messageIn, audioIn}
 use Rattle.bench.specs.Reporting.{reportSaid, reportBytes, reportedBench}
 use Rattle.record.specs.declared.whole.Bench.{Bench}
@@ -49,9 +49,9 @@ step b (packet n p) = outcome (packetSaid b n p) (told (packetSaid b n p) p) b (
 step b (tick ms) = outcome (tickSaid ms) (λ u. ticked (tickSets b ms .closed) (tickSets b ms .due)) b (tickedBench b ms)
 step b (report n timestamp sound room) =
     outcome (reportSaid b n timestamp sound room) (λ k. written (reportBytes b n timestamp sound)) b (reportedBench b n)
-step b (received signals level) = record { answer = accepted done; bench = receivedBench b signals level }
-step b (transmitter healthy) = record { answer = accepted done; bench = transmitterBench b healthy }
-step b (side standby) = outcome (sideSaid b) (λ u. done) b (sidedBench b standby)
+step b (received signals level) = record { answer = accepted done; bench = withSignals b signals level }
+step b (transmitter healthy) = record { answer = accepted done; bench = withHealth b healthy }
+step b (side standby) = outcome (sideSaid b) (λ u. done) b (withSide b standby)
 
 -- The bench after a run of calls.
 unfoldable pub after : Bench → List Call → Bench

@@ -5,9 +5,10 @@ ghost use lib.ListN.{length};
 ghost use Rattle.base.specs.Bytes.{LiesAt};
 ghost use Rattle.packet.specs.Packet.{payload, payloadAt};
 ghost use Rattle.record.specs.Record.{noSuchSeat, settled};
-ghost use Rattle.bench.specs.Hearing.{messageIn, heardBench, isOnAir, hearingOf, packetSaid, audioIn, audioAt};
+ghost use Rattle.reader.specs.Reading.{txAnswer};
+ghost use Rattle.bench.specs.Hearing.{messageIn, heardBench, isOnAir, packetSaid, audioIn, audioAt};
 ghost use Rattle.bench.specs.Answers.{packetAnswer};
-ghost use Rattle.bench.specs.Pieces.{Whole, messageSaid};
+ghost use Rattle.bench.specs.Pieces.{Whole, admitted, letIn};
 use crate::admission::message_verdict;
 use crate::memory::field_heard;
 use crate::memory::heard_bench;
@@ -23,6 +24,7 @@ use reader::payload;
 use reader::read_tx;
 use record::Bench;
 use record::Seat;
+use record::Setup;
 use record::seat_of;
 use seats::opening::seat_verdict;
 
@@ -54,14 +56,29 @@ pub fn packet(b: Bench, n: u8, p: &[u8]) -> Packeted
 {
     let seats = b.seats;
     let setup = b.setup;
-    let verdict = seat_verdict(n, seats);
-    match verdict {
-        Verdict::Refused(r) => turned_away(b, r),
-        Verdict::Fine => {
-            let told = read_tx(setup.ext, p);
-            match told {
-                TxRead::Refused(r) => turned_away(b, r),
-                TxRead::Message(m) => with_message(b, n, m, p),
+    let s = seat_of(seats, n);
+    let told = admitted(setup, n, s, p);
+    match told {
+        TxRead::Refused(r) => Packeted {
+            bench: b,
+            answer: PacketAnswer::Refused(r),
+        },
+        TxRead::Message(m) => {
+            let after = heard_bench(b, n, m);
+            let sent = on_air(after, n);
+            let heard = s.heard;
+            let old = heard.field;
+            let same = same_field(old, field_heard(m));
+            let answer = PacketAnswer::Accepted(Hearing {
+                missing: missing(heard.any, heard.sequence, m.sequence),
+                reply: !same,
+                standby: after.standby,
+                at: sent_at(sent, p),
+                length: sent_length(sent, p),
+            });
+            Packeted {
+                bench: after,
+                answer,
             }
         }
     }
@@ -86,57 +103,40 @@ pub fn audio(answer: PacketAnswer, p: &[u8]) -> &[u8]
     }
 }
 
-fn turned_away(b: Bench, r: Refusal) -> Packeted
-    ensures { λ o. ⌜ (o .bench ≡ b) × (o .answer ≡ PacketAnswer.Refused r) ⌝ }
+// The message of a packet that seat n takes; else the refusal. No bench is asked, so none is copied for a refusal.
+fn admitted(setup: Setup, n: u8, s: Seat, p: &[u8]) -> TxRead
+    ensures { λ r. ⌜ txAnswer r ≡ admitted setup n s (now (p .entry)) ⌝ }
 {
-    Packeted {
-        bench: b,
-        answer: PacketAnswer::Refused(r),
-    }
-}
-
-// 19 to 23, then the bench after the message.
-fn with_message(b: Bench, n: u8, m: Tx, p: &[u8]) -> Packeted
-    requires { ⌜ (noSuchSeat n ≡ false) × Whole (now p) ⌝ }
-    ensures answer { λ r. ⌜ packetAnswer (r .answer) ≡ messageSaid b n m (now (p .entry)) ⌝ }
-    ensures bench { λ r. ⌜ r .bench ≡ settled (messageSaid b n m (now (p .entry))) b (heardBench b n m) ⌝ }
-{
-    let seats = b.seats;
-    let setup = b.setup;
-    let s = seat_of(seats, n);
-    let verdict = message_verdict(setup, n, s, m);
+    let verdict = seat_verdict(n, s.opened);
     match verdict {
-        Verdict::Refused(r) => turned_away(b, r),
+        Verdict::Refused(r) => TxRead::Refused(r),
         Verdict::Fine => {
-            let after = heard_bench(b, n, m);
-            let answer = PacketAnswer::Accepted(hearing_of(s, after, n, m, p));
-            Packeted {
-                bench: after,
-                answer,
+            let told = read_tx(setup.ext, p);
+            match told {
+                TxRead::Refused(r) => TxRead::Refused(r),
+                TxRead::Message(m) => let_in(setup, n, s, m),
             }
         }
     }
 }
 
-// What an accepted message answers, from the seat before it and the bench after it.
-fn hearing_of(s: Seat, after: Bench, n: u8, m: Tx, p: &[u8]) -> Hearing
-    requires { ⌜ (noSuchSeat n ≡ false) × Whole (now p) ⌝ }
-    ensures { λ r. ⌜ r ≡ hearingOf s after (isOnAir after n) m (now (p .entry)) ⌝ }
+// 19 to 23, of a message that was read.
+fn let_in(setup: Setup, n: u8, s: Seat, m: Tx) -> TxRead
+    ensures { λ r. ⌜ txAnswer r ≡ letIn setup n s m ⌝ }
 {
-    let heard = s.heard;
-    let old = heard.field;
-    let new = field_heard(m);
-    let same = same_field(old, new);
-    let air = bench_air(after);
-    let i = (n - 1) as usize;
-    let sent = air.on[i];
-    Hearing {
-        missing: missing(heard.any, heard.sequence, m.sequence),
-        reply: !same,
-        standby: after.standby,
-        at: sent_at(sent, p),
-        length: sent_length(sent, p),
+    let verdict = message_verdict(setup, n, s, m);
+    match verdict {
+        Verdict::Refused(r) => TxRead::Refused(r),
+        Verdict::Fine => TxRead::Message(m),
     }
+}
+
+fn on_air(b: Bench, n: u8) -> bool
+    requires { ⌜ noSuchSeat n ≡ false ⌝ }
+    ensures { λ r. ⌜ r ≡ isOnAir b n ⌝ }
+{
+    let air = bench_air(b);
+    air.on[(n - 1) as usize]
 }
 
 // Where the audio to send begins: behind the words, which is where the payload does.

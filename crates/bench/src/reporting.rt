@@ -18,7 +18,7 @@ use packet::audio_length;
 use packet::quality;
 use record::Air;
 use record::Bench;
-use record::Seat;
+use record::is_open;
 use record::seat_of;
 use seats::opening::seat_verdict;
 use writer::Written;
@@ -37,7 +37,7 @@ pub fn report(b: Bench, n: u8, timestamp: u32, audio: &[u8], out: &mut [u8]) -> 
     ensures bench { λ r. ⌜ r .bench ≡ settled (reportSaid b n timestamp (now (audio .entry)) (length (now (out .entry)))) b (reportedBench b n) ⌝ }
 {
     let seats = b.seats;
-    let verdict = report_verdict(n, seats, b.signals, audio.len());
+    let verdict = report_verdict(n, is_open(seats, n), b.signals, audio.len());
     match verdict {
         Verdict::Refused(r) => Reported {
             bench: b,
@@ -48,14 +48,14 @@ pub fn report(b: Bench, n: u8, timestamp: u32, audio: &[u8], out: &mut [u8]) -> 
 }
 
 // 13, 14 and 25.
-fn report_verdict(n: u8, seats: [Seat; 8], signals: u8, length: usize) -> Verdict
-    ensures { λ r. ⌜ verdictOf r ≡ reportVerdict n seats signals length ⌝ }
+fn report_verdict(n: u8, opened: bool, signals: u8, audio: usize) -> Verdict
+    ensures { λ r. ⌜ verdictOf r ≡ reportVerdict n opened signals audio ⌝ }
 {
-    let verdict = seat_verdict(n, seats);
+    let verdict = seat_verdict(n, opened);
     match verdict {
         Verdict::Refused(r) => Verdict::Refused(r),
         Verdict::Fine => {
-            let barred = audio_barred(signals, length);
+            let barred = audio_barred(signals, audio);
             if barred {
                 Verdict::Refused(Refusal::ReportAudio)
             } else {
@@ -66,12 +66,12 @@ fn report_verdict(n: u8, seats: [Seat; 8], signals: u8, length: usize) -> Verdic
 }
 
 // 25: audio of another length than 10, 20 or 30 ms, or while no signal is received.
-fn audio_barred(signals: u8, length: usize) -> bool
-    ensures { λ r. ⌜ r ≡ audioBarred signals length ⌝ }
+fn audio_barred(signals: u8, audio: usize) -> bool
+    ensures { λ r. ⌜ r ≡ audioBarred signals audio ⌝ }
 {
-    let none = length == 0;
+    let none = audio == 0;
     let squ = 1 <= signals;
-    !(none | audio_length(length)) | (!squ & !none)
+    !(none | audio_length(audio)) | (!squ & !none)
 }
 
 // The report written, and the bench with the next sequence number if it was.

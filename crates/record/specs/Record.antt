@@ -3,7 +3,7 @@ use Prim.Native.Nat.{ℕ, _*_, _-_}
 use mathlib.Core.Bool.{Bool, true, false, cond, not, _&&_, _||_}
 use mathlib.Core.List.{List, [], _∷_}
 use lib.Dec.{ltb, eqb}
-use lib.IntN.{pos}
+use lib.IntN.{ℤ, pos}
 use lib.ListN.{getD, set, replicate}
 use Rattle.packet.specs.Refusals.{Answer, accepted, refused}
 use Rattle.record.specs.declared.setup.Setup.{Setup}
@@ -69,8 +69,9 @@ seatOf seats n = cond (noSuchSeat n) closedSeat (getD seats (n - 1) closedSeat)
 unfoldable pub lesson : Setup → ℕ → Bool
 lesson setup n = not (noSuchSeat n) && getD (setup .lesson) (n - 1) false
 
--- The bench with one thing changed.
-unfoldable pub withSeats : Bench → List Seat → Bench
+-- The bench with one thing changed. (A record is written out whole here and in freshBench alone: antt has no shorter way to
+-- say "the same but for".)
+abbrev pub withSeats : Bench → List Seat → Bench
 withSeats b seats =
     record {
       setup = b .setup;
@@ -83,21 +84,77 @@ withSeats b seats =
       level = b .level;
     }
 
-unfoldable pub withSeat : Bench → ℕ → Seat → Bench
-withSeat b n seat = withSeats b (set (b .seats) (n - 1) seat)
-
-unfoldable pub withSequence : Bench → ℕ → ℕ → Bench
-withSequence b n sequence =
+abbrev pub withSequences : Bench → List ℕ → Bench
+withSequences b sequences =
     record {
       setup = b .setup;
       seats = b .seats;
-      sequences = set (b .sequences) (n - 1) sequence;
+      sequences = sequences;
       order = b .order;
       standby = b .standby;
       healthy = b .healthy;
       signals = b .signals;
       level = b .level;
     }
+
+abbrev pub withOrder : Bench → List ℕ → Bench
+withOrder b order =
+    record {
+      setup = b .setup;
+      seats = b .seats;
+      sequences = b .sequences;
+      order = order;
+      standby = b .standby;
+      healthy = b .healthy;
+      signals = b .signals;
+      level = b .level;
+    }
+
+abbrev pub withSide : Bench → (standby : Bool) → Bench
+withSide b standby =
+    record {
+      setup = b .setup;
+      seats = b .seats;
+      sequences = b .sequences;
+      order = b .order;
+      standby = standby;
+      healthy = b .healthy;
+      signals = b .signals;
+      level = b .level;
+    }
+
+abbrev pub withHealth : Bench → (healthy : Bool) → Bench
+withHealth b healthy =
+    record {
+      setup = b .setup;
+      seats = b .seats;
+      sequences = b .sequences;
+      order = b .order;
+      standby = b .standby;
+      healthy = healthy;
+      signals = b .signals;
+      level = b .level;
+    }
+
+abbrev pub withSignals : Bench → (signals : ℕ) (level : ℤ) → Bench
+withSignals b signals level =
+    record {
+      setup = b .setup;
+      seats = b .seats;
+      sequences = b .sequences;
+      order = b .order;
+      standby = b .standby;
+      healthy = b .healthy;
+      signals = signals;
+      level = level;
+    }
+
+-- One seat, and the sequence number of its next report.
+abbrev pub withSeat : Bench → (n : ℕ) → Seat → Bench
+withSeat b n seat = withSeats b (set (b .seats) (n - 1) seat)
+
+abbrev pub withSequence : Bench → (n sequence : ℕ) → Bench
+withSequence b n sequence = withSequences b (set (b .sequences) (n - 1) sequence)
 
 -- "State and buffers stay the same" where a call is refused.
 abbrev pub settled : {A : Type 0} → Answer A → (before after : Bench) → Bench

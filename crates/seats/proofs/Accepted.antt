@@ -2,15 +2,15 @@
 -- is here whole, for readers and for later calls, also where no proof asks for a test yet.
 use Prim.Native.Nat.{ℕ, _≤_}
 use mathlib.Core.Path.{_≡_}
-use mathlib.Core.Bool.{true, false, _&&_}
+use mathlib.Core.Bool.{Bool, true, false, _&&_}
 use mathlib.Core.List.{List}
 use lib.Dec.{leb}
 use borrow.Author.Tests.{ltb-false, leb-true, not-false}
 use Rattle.base.proofs.Truths.{and-left, and-right, and-rest}
 use Rattle.packet.specs.Refusals.{NoCase}
 use Rattle.record.specs.Record.{noSuchSeat, seatOf, lesson}
-use Rattle.seats.specs.Opening.{asksCoupling, anyCoupling, timesAllowed, openRefusals, closeRefusals}
-use Rattle.seats.specs.Ticking.{tickRefusals}
+use Rattle.seats.specs.Opening.{shortest, longest, fewest, most, asksCoupling, anyCoupling, timesAllowed, openRefusals, seatRefusals}
+use Rattle.seats.specs.Ticking.{longestTick, tickRefusals}
 use Rattle.seats.specs.Radio.{sideRefusals}
 use Rattle.record.specs.declared.setup.Setup.{Setup}
 use Rattle.record.specs.declared.seat.Seat.{Seat}
@@ -19,10 +19,10 @@ use Rattle.seats.specs.declared.opening.Request.{Request}
 pub record OpenAccepted (setup : Setup) (n : ℕ) (seats : List Seat) (r : Request) : Type 0 where
   pub is-seat : noSuchSeat n ≡ false
   pub was-closed : seatOf seats n .opened ≡ false
-  pub period-least : 20 ≤ r .period
-  pub period-most : r .period ≤ 1000
-  pub multiplier-least : 2 ≤ r .multiplier
-  pub multiplier-most : r .multiplier ≤ 50
+  pub period-least : shortest ≤ r .period
+  pub period-most : r .period ≤ longest
+  pub multiplier-least : fewest ≤ r .multiplier
+  pub multiplier-most : r .multiplier ≤ most
   pub lesson-not-coupling : lesson setup n ≡ true → asksCoupling r ≡ false
   pub coupling-free : asksCoupling r ≡ true → anyCoupling seats ≡ false
 
@@ -30,30 +30,30 @@ pub open-accepted : (setup : Setup) (n : ℕ) (seats : List Seat) (r : Request) 
 unfolding openRefusals
 open-accepted setup n seats r none =
     let all : timesAllowed r ≡ true = not-false (timesAllowed r) (none .1 .1 .0) in
-    let three = and-left (leb 20 (r .period) && leb (r .period) 1000 && leb 2 (r .multiplier)) (leb (r .multiplier) 50) all in
-    let two = and-left (leb 20 (r .period) && leb (r .period) 1000) (leb 2 (r .multiplier)) three in
+    let three = and-left (leb shortest (r .period) && leb (r .period) longest && leb fewest (r .multiplier)) (leb (r .multiplier) most) all in
+    let two = and-left (leb shortest (r .period) && leb (r .period) longest) (leb fewest (r .multiplier)) three in
     record {
       is-seat = none .0;
       was-closed = none .1 .0;
-      period-least = leb-true 20 (r .period) (and-left (leb 20 (r .period)) (leb (r .period) 1000) two);
-      period-most = leb-true (r .period) 1000 (and-right (leb 20 (r .period)) (leb (r .period) 1000) two);
-      multiplier-least = leb-true 2 (r .multiplier) (and-right (leb 20 (r .period) && leb (r .period) 1000) (leb 2 (r .multiplier)) three);
-      multiplier-most = leb-true (r .multiplier) 50 (and-right (leb 20 (r .period) && leb (r .period) 1000 && leb 2 (r .multiplier)) (leb (r .multiplier) 50) all);
+      period-least = leb-true shortest (r .period) (and-left (leb shortest (r .period)) (leb (r .period) longest) two);
+      period-most = leb-true (r .period) longest (and-right (leb shortest (r .period)) (leb (r .period) longest) two);
+      multiplier-least = leb-true fewest (r .multiplier) (and-right (leb shortest (r .period) && leb (r .period) longest) (leb fewest (r .multiplier)) three);
+      multiplier-most = leb-true (r .multiplier) most (and-right (leb shortest (r .period) && leb (r .period) longest && leb fewest (r .multiplier)) (leb (r .multiplier) most) all);
       lesson-not-coupling = and-rest (lesson setup n) (asksCoupling r) (none .1 .1 .1 .0);
       coupling-free = and-rest (asksCoupling r) (anyCoupling seats) (none .1 .1 .1 .1 .0);
     }
 
-pub record CloseAccepted (n : ℕ) (seats : List Seat) : Type 0 where
+pub record SeatAccepted (n : ℕ) (opened : Bool) : Type 0 where
   pub is-seat : noSuchSeat n ≡ false
-  pub was-open : seatOf seats n .opened ≡ true
+  pub was-open : opened ≡ true
 
-pub close-accepted : (n : ℕ) (seats : List Seat) → NoCase (closeRefusals n seats) → CloseAccepted n seats
-unfolding closeRefusals
-close-accepted n seats none = record { is-seat = none .0; was-open = not-false _ (none .1 .0) }
+pub seat-accepted : (n : ℕ) (opened : Bool) → NoCase (seatRefusals n opened) → SeatAccepted n opened
+unfolding seatRefusals
+seat-accepted n opened none = record { is-seat = none .0; was-open = not-false _ (none .1 .0) }
 
-pub tick-accepted : (ms : ℕ) → NoCase (tickRefusals ms) → ms ≤ 1000
+pub tick-accepted : (ms : ℕ) → NoCase (tickRefusals ms) → ms ≤ longestTick
 unfolding tickRefusals
-tick-accepted ms none = ltb-false 1000 ms (none .0)
+tick-accepted ms none = ltb-false longestTick ms (none .0)
 
 pub side-accepted : (setup : Setup) → NoCase (sideRefusals setup) → setup .pair ≡ true
 unfolding sideRefusals

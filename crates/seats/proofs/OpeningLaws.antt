@@ -13,14 +13,14 @@ use Rattle.packet.specs.declared.refusal.Refusal.{Refusal}
 use Rattle.packet.specs.declared.refusal.Verdict.{Verdict}
 use Rattle.packet.specs.declared.refusal.Verdict.the-variants as verdict
 use Rattle.record.specs.Record.{noSuchSeat, seatOf, lesson, closedSeat, settled}
-use Rattle.seats.specs.Opening.{callCode, mayKey, asksCoupling, timesAllowed, holdsCoupling, anyCoupling, ownId, openRefusals, openSaid, openedBench, closeRefusals, seatVerdict, closeSaid, closedBench}
+use Rattle.seats.specs.Opening.{callCode, mayKey, asksCoupling, timesAllowed, holdsCoupling, anyCoupling, ownId, openRefusals, openSaid, openedBench, seatRefusals, seatVerdict, closeSaid, closedBench}
 use Rattle.seats.specs.Answers.{openAnswer}
 use Rattle.record.specs.declared.seat.Seat.{Seat}
 use Rattle.record.specs.declared.whole.Bench.{Bench}
 use Rattle.seats.specs.declared.opening.Request.{Request}
 use Rattle.seats.specs.declared.opening.OpenAnswer.{OpenAnswer}
 use Rattle.seats.specs.declared.opening.OpenAnswer.the-variants as opening
-use Rattle.seats.proofs.Accepted.{open-accepted, close-accepted}
+use Rattle.seats.proofs.Accepted.{open-accepted, seat-accepted}
 use Rattle.record.proofs.RecordLaws.{recordCases}
 
 -- ---- the call type
@@ -91,27 +91,24 @@ module _ (b : Bench) (n : ℕ) (r : Request) (s : Bool) (seat : s ≡ noSuchSeat
           unfolding openSaid openRefusals
           open-done code id w c e = simp (← seat, p, ← opened, q, ← times, u, ← in-lesson, ← coupling, v, ← taken, w, e, c)
 
--- ---- the answer of a closing
-
 -- ---- 13 and 14, of each call for a seat that is open
 
-module _ (n : ℕ) (seats : List Seat) (s : Bool) (seat : s ≡ noSuchSeat n) where
-  pub seat-13 : s ≡ true → refused 13 0 ≡ seatVerdict n seats
-  unfolding seatVerdict closeRefusals
+module _ (n : ℕ) (opened s : Bool) (seat : s ≡ noSuchSeat n) where
+  pub seat-13 : s ≡ true → refused 13 0 ≡ seatVerdict n opened
+  unfolding seatVerdict seatRefusals
   seat-13 p = simp (← seat, p)
 
-  module _ (o : Bool) (opened : o ≡ seatOf seats n .opened) (p : s ≡ false) where
-    pub seat-14 : o ≡ false → refused 14 0 ≡ seatVerdict n seats
-    unfolding seatVerdict closeRefusals
-    seat-14 q = simp (← seat, p, ← opened, q)
+  pub seat-14 : s ≡ false → opened ≡ false → refused 14 0 ≡ seatVerdict n opened
+  unfolding seatVerdict seatRefusals
+  seat-14 p q = simp (← seat, p, q)
 
-    pub seat-fine : o ≡ true → accepted tt ≡ seatVerdict n seats
-    unfolding seatVerdict closeRefusals
-    seat-fine q = simp (← seat, p, ← opened, q)
+  pub seat-fine : s ≡ false → opened ≡ true → accepted tt ≡ seatVerdict n opened
+  unfolding seatVerdict seatRefusals
+  seat-fine p q = simp (← seat, p, q)
 
-pub seat-there : (n : ℕ) (seats : List Seat) {v : Verdict} → v ≡ verdict.Fine → verdictOf v ≡ seatVerdict n seats → noSuchSeat n ≡ false
+pub seat-there : (n : ℕ) (opened : Bool) {v : Verdict} → v ≡ verdict.Fine → verdictOf v ≡ seatVerdict n opened → noSuchSeat n ≡ false
 unfolding seatVerdict
-seat-there n seats e said = close-accepted n seats (meets-none (closeRefusals n seats) tt tt (sym said ∙ ap verdictOf e) .0) .is-seat
+seat-there n opened e said = seat-accepted n opened (meets-none (seatRefusals n opened) tt tt (sym said ∙ ap verdictOf e) .0) .is-seat
 
 -- ---- what an answer leaves: a seat's number where it is accepted, the bench as it was where it is refused
 
@@ -126,10 +123,10 @@ module _ (b : Bench) (n : ℕ) (r : Request) (a : OpenAnswer) (said : openAnswer
   pub opened-stays : (x : Refusal) → a ≡ opening.Refused x → b ≡ settled (openSaid b n r) b (openedBench b n r)
   opened-stays x e = rw (← said, e)
 
-module _ (b : Bench) (n : ℕ) (v : Verdict) (said : verdictOf v ≡ seatVerdict n (b .seats)) where
+module _ (b : Bench) (n : ℕ) (v : Verdict) (opened : Bool) (here : opened ≡ seatOf (b .seats) n .opened) (said : verdictOf v ≡ seatVerdict n opened) where
   as-closed : verdictOf v ≡ closeSaid b n
-  unfolding seatVerdict closeSaid
-  as-closed = said
+  unfolding closeSaid
+  as-closed = said ∙ ap (seatVerdict n) here
 
   pub close-done : v ≡ verdict.Fine → accepted tt ≡ closeSaid b n
   close-done e = cc as-closed
@@ -142,8 +139,6 @@ module _ (b : Bench) (n : ℕ) (v : Verdict) (said : verdictOf v ≡ seatVerdict
 
   pub closed-stays : (x : Refusal) → v ≡ verdict.Refused x → b ≡ settled (closeSaid b n) b (closedBench b n)
   closed-stays x e = rw (← as-closed, e)
-
-pub ruleset openingCases = (asks-by, own-number, own-none, coupling-found, coupling-passed, coupling-nowhere, open-13, open-15, open-16, open-17, open-18, open-done, seat-13, seat-14, seat-fine, seat-there, opened-seat, opened-moves, opened-stays, close-done, closed-moves, close-refused, closed-stays, recordCases)
 
 -- ---- 18 not met
 
@@ -161,3 +156,5 @@ none-coupling ss n e = by-case (noSuchSeat n)
     by-case : (none : Bool) → holdsCoupling (cond none closedSeat (getD ss (n - 1) closedSeat)) ≡ false
     by-case true = refl
     by-case false = none-at-place ss (n - 1) e
+
+pub ruleset openingCases = (asks-by, own-number, own-none, coupling-found, coupling-passed, coupling-nowhere, open-13, open-15, open-16, open-17, open-18, open-done, seat-13, seat-14, seat-fine, seat-there, opened-seat, opened-moves, opened-stays, close-done, closed-moves, close-refused, closed-stays, recordCases)

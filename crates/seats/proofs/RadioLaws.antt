@@ -3,8 +3,8 @@ use mathlib.Core.Path.{_≡_}
 use mathlib.Core.Bool.{Bool, true, false}
 use borrow.Author.Needs.{needs}
 use Rattle.packet.specs.Refusals.{accepted, refused}
-use Rattle.record.specs.Record.{settled}
-use Rattle.seats.specs.Radio.{sidedBench, sideRefusals, sideSaid}
+use Rattle.record.specs.Record.{settled, withSide}
+use Rattle.seats.specs.Radio.{sideRefusals, sideSaid}
 use Rattle.record.specs.declared.whole.Bench.{Bench}
 
 module _ (b : Bench) where
@@ -16,10 +16,10 @@ module _ (b : Bench) where
   unfolding sideSaid sideRefusals
   side-done h = simp h
 
-  pub side-stays : (standby : Bool) → b .setup .pair ≡ false → b ≡ settled (sideSaid b) b (sidedBench b standby)
+  pub side-stays : (standby : Bool) → b .setup .pair ≡ false → b ≡ settled (sideSaid b) b (withSide b standby)
   side-stays standby h = rw (← side-23 h)
 
-  pub side-moves : (standby : Bool) (next : Bench) → b .setup .pair ≡ true → next ≡ sidedBench b standby → next ≡ settled (sideSaid b) b (sidedBench b standby)
+  pub side-moves : (standby : Bool) (next : Bench) → b .setup .pair ≡ true → next ≡ withSide b standby → next ≡ settled (sideSaid b) b (withSide b standby)
   side-moves standby next h e = rw (← side-done h) e
 
 pub ruleset radioCases = (side-23, side-done, side-stays, side-moves, needs)

@@ -7,14 +7,13 @@ use native.Mathlib.Nat.{mod-lt}
 use native.Mathlib.Omega.{arith}
 use borrow.Author.Needs.{needs}
 use borrow.Author.Tests.{eq-eqb, ne-eqb, leb-false, lt-leb, lt-ltb, le-ltb}
-use lib.Dec.{leb}
 use mir.Syntax.{w16}
 use mir.Val.{Fits}
 use Rattle.base.proofs.Loops.{fill-more, fill-done}
 use Rattle.base.proofs.Truths.{and-left, and-right}
 use Rattle.packet.specs.Refusals.{accepted, refused}
 use Rattle.record.specs.Record.{closedSeat, settled}
-use Rattle.seats.specs.Ticking.{fallsSilent, phaseAfter, isDue, aged, tickedSeat, tickRefusals, tickSaid, noSeats, tickSets, tickedBench}
+use Rattle.seats.specs.Ticking.{nothingLeft, fallsSilent, phaseAfter, isDue, aged, tickedSeat, longestTick, tickRefusals, tickSaid, noSeats, tickSets, tickedBench}
 use Rattle.record.specs.declared.seat.Seat.{Seat}
 use Rattle.record.specs.declared.whole.Bench.{Bench}
 use Rattle.seats.specs.declared.ticking.SeatSets.{SeatSets}
@@ -34,7 +33,7 @@ module _ (ms : ℕ) (s : Seat) where
   module _ (t : Bool) (silent : t ≡ fallsSilent ms s) where
     pub falls-closed : t ≡ true → closedSeat ≡ tickedSeat ms s
     unfolding fallsSilent tickedSeat
-    falls-closed p = simp (and-left (s .opened) (leb (s .left) ms) (sym silent ∙ p), and-right (s .opened) (leb (s .left) ms) (sym silent ∙ p))
+    falls-closed p = simp (and-left (s .opened) (nothingLeft ms s) (sym silent ∙ p), and-right (s .opened) (nothingLeft ms s) (sym silent ∙ p))
 
     pub time-left : s .opened ≡ true → t ≡ false → ms < s .left
     unfolding fallsSilent
@@ -51,16 +50,16 @@ module _ (ms : ℕ) (s : Seat) where
 -- what holds of a closed seat, of one that grew older and of one that was closed before holds of a seat after a tick
 pub ticked-cases : (P : Seat → Type 0) (ms : ℕ) (s : Seat) → P closedSeat → (s .opened ≡ true → ms < s .left → P (aged ms s)) → P s → P (tickedSeat ms s)
 unfolding tickedSeat
-ticked-cases P ms s closes ages stays = by-tests (s .opened) (leb (s .left) ms) refl refl
+ticked-cases P ms s closes ages stays = by-tests (s .opened) (nothingLeft ms s) refl refl
   where
-    by-tests : (opened silent : Bool) → s .opened ≡ opened → leb (s .left) ms ≡ silent → P (cond opened (cond silent closedSeat (aged ms s)) s)
+    by-tests : (opened silent : Bool) → s .opened ≡ opened → nothingLeft ms s ≡ silent → P (cond opened (cond silent closedSeat (aged ms s)) s)
     by-tests true true e h = closes
     by-tests true false e h = ages e (leb-false (s .left) ms h)
     by-tests false silent e h = stays
 
 -- ---- the whole tick
 
-module _ (b : Bench) (ms : ℕ) (h : 1000 < ms) where
+module _ (b : Bench) (ms : ℕ) (h : longestTick < ms) where
   pub tick-24 : refused 24 0 ≡ tickSaid ms
   unfolding tickSaid tickRefusals
   tick-24 = simp (lt-ltb _ _ h)
@@ -72,7 +71,7 @@ module _ (b : Bench) (ms : ℕ) (h : 1000 < ms) where
   pub tick-stays : b ≡ settled (tickSaid ms) b (tickedBench b ms)
   tick-stays = rw (← tick-24)
 
-module _ (b : Bench) (ms : ℕ) (h : ms ≤ 1000) where
+module _ (b : Bench) (ms : ℕ) (h : ms ≤ longestTick) where
   pub tick-done : accepted tt ≡ tickSaid ms
   unfolding tickSaid tickRefusals
   tick-done = simp (le-ltb _ _ h)

@@ -78,19 +78,18 @@ unfoldable pub openedBench : Bench → (n : ℕ) → Request → Bench
 openedBench b n r =
     withSequence (withSeat b n (openedSeat (callCode (r .call)) (r .period) (r .multiplier) (r .ssrc))) n (r .sequence)
 
--- "Close 13, 14."
-unfoldable pub closeRefusals : (n : ℕ) → List Seat → List Case
-closeRefusals n seats =
+-- "13 | seat not 1 to 8", "14 | seat not open": of each call for a seat that is open. "Close 13, 14."
+unfoldable pub seatRefusals : (n : ℕ) → (opened : Bool) → List Case
+seatRefusals n opened =
     13 if noSuchSeat n
-    ∷ 14 if not (seatOf seats n .opened)
+    ∷ 14 if not opened
     ∷ []
 
--- the same of each call for a seat that is open
-unfoldable pub seatVerdict : (n : ℕ) → List Seat → Answer (Unit {0})
-seatVerdict n seats = judged (closeRefusals n seats) tt
+unfoldable pub seatVerdict : (n : ℕ) → (opened : Bool) → Answer (Unit {0})
+seatVerdict n opened = judged (seatRefusals n opened) tt
 
 unfoldable pub closeSaid : Bench → (n : ℕ) → Answer (Unit {0})
-closeSaid b n = judged (closeRefusals n (b .seats)) tt
+closeSaid b n = seatVerdict n (seatOf (b .seats) n .opened)
 
 -- "It can be opened again at once."
 unfoldable pub closedBench : Bench → (n : ℕ) → Bench

@@ -64,7 +64,7 @@ pub fn close(b: Bench, n: u8) -> Done
     ensures bench { λ d. ⌜ d .bench ≡ settled (closeSaid b n) b (closedBench b n) ⌝ }
 {
     let seats = b.seats;
-    let verdict = seat_verdict(n, seats);
+    let verdict = seat_verdict(n, is_open(seats, n));
     match verdict {
         Verdict::Refused(r) => Done {
             bench: b,
@@ -92,11 +92,11 @@ fn open_answer(b: Bench, n: u8, r: Request) -> OpenAnswer
     if !times_allowed(r) {
         return OpenAnswer::Refused(Refusal::PeriodOrMultiplier);
     }
-    let coupling = asks_coupling(r);
-    if lesson_seat(setup, n) & coupling {
+    let asks = asks_coupling(r);
+    if lesson_seat(setup, n) & asks {
         return OpenAnswer::Refused(Refusal::LessonCoupling);
     }
-    if coupling & any_coupling(seats) {
+    if asks & any_coupling(seats) {
         return OpenAnswer::Refused(Refusal::CouplingTaken);
     }
     let call = r.call;
@@ -117,13 +117,13 @@ fn opened_bench(b: Bench, n: u8, r: Request) -> Bench
 }
 
 // 13 and 14, of each call for a seat that is open.
-pub fn seat_verdict(n: u8, seats: [Seat; 8]) -> Verdict
-    ensures { λ r. ⌜ verdictOf r ≡ seatVerdict n seats ⌝ }
+pub fn seat_verdict(n: u8, opened: bool) -> Verdict
+    ensures { λ r. ⌜ verdictOf r ≡ seatVerdict n opened ⌝ }
 {
     if no_such_seat(n) {
         return Verdict::Refused(Refusal::NoSuchSeat);
     }
-    if is_open(seats, n) {
+    if opened {
         return Verdict::Fine;
     }
     Verdict::Refused(Refusal::SeatNotOpen)

@@ -1,7 +1,7 @@
 // Radio events: what the radio itself receives, and how it is doing.
 ghost use mathlib.Core.Path.{_≡_};
-ghost use Rattle.record.specs.Record.{settled};
-ghost use Rattle.seats.specs.Radio.{receivedBench, transmitterBench, sidedBench, sideSaid};
+ghost use Rattle.record.specs.Record.{settled, withSignals, withHealth, withSide};
+ghost use Rattle.seats.specs.Radio.{sideSaid};
 ghost use Rattle.seats.specs.Answers.{doneAnswer};
 use crate::answer::Done;
 use crate::answer::DoneAnswer;
@@ -10,7 +10,7 @@ use record::Bench;
 
 // Signals received, with the level in whole dBm.
 pub fn received(b: Bench, signals: u8, level: i16) -> Bench
-    ensures { λ r. ⌜ r ≡ receivedBench b signals level ⌝ }
+    ensures { λ r. ⌜ r ≡ withSignals b signals level ⌝ }
 {
     let mut next = b;
     next.signals = signals;
@@ -20,7 +20,7 @@ pub fn received(b: Bench, signals: u8, level: i16) -> Bench
 
 // The transmitter, healthy or not.
 pub fn transmitter(b: Bench, healthy: bool) -> Bench
-    ensures { λ r. ⌜ r ≡ transmitterBench b healthy ⌝ }
+    ensures { λ r. ⌜ r ≡ withHealth b healthy ⌝ }
 {
     let mut next = b;
     next.healthy = healthy;
@@ -30,7 +30,7 @@ pub fn transmitter(b: Bench, healthy: bool) -> Bench
 // The side now in use, set by the radio itself. 23 on a single radio.
 pub fn side(b: Bench, standby: bool) -> Done
     ensures answer { λ d. ⌜ doneAnswer (d .answer) ≡ sideSaid b ⌝ }
-    ensures bench { λ d. ⌜ d .bench ≡ settled (sideSaid b) b (sidedBench b standby) ⌝ }
+    ensures bench { λ d. ⌜ d .bench ≡ settled (sideSaid b) b (withSide b standby) ⌝ }
 {
     let setup = b.setup;
     if setup.pair {
@@ -46,7 +46,7 @@ pub fn side(b: Bench, standby: bool) -> Done
 }
 
 fn sided_bench(b: Bench, standby: bool) -> Bench
-    ensures { λ r. ⌜ r ≡ sidedBench b standby ⌝ }
+    ensures { λ r. ⌜ r ≡ withSide b standby ⌝ }
 {
     let mut next = b;
     next.standby = standby;

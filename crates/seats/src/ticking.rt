@@ -3,12 +3,15 @@ ghost use mathlib.Core.Path.{_≡_};
 ghost use mathlib.Core.List.{map};
 ghost use Prim.Native.Nat.{_<_};
 ghost use Rattle.record.specs.Record.{settled};
-ghost use Rattle.seats.specs.Ticking.{fallsSilent, phaseAfter, isDue, aged, tickedSeat, silenceCause, tickSaid, tickSets, tickedBench};
+ghost use Rattle.seats.specs.Ticking.{nothingLeft, fallsSilent, phaseAfter, isDue, aged, tickedSeat, silenceCause, tickSaid, tickSets, tickedBench};
 ghost use Rattle.seats.specs.Answers.{doneAnswer};
 use crate::answer::DoneAnswer;
 use packet::Refusal;
 use record::Bench;
 use record::Seat;
+
+// The longest that one tick may last, in ms.
+const LONGEST: u16 = 1000;
 
 // Sets of seats: those closed by silence, and those due a report. Seat n has place n - 1.
 #[repr(C)]
@@ -36,7 +39,7 @@ pub fn tick(b: Bench, ms: u16) -> Ticked
     ensures seats { λ t. ⌜ t .seats ≡ tickSets b ms ⌝ }
     ensures bench { λ t. ⌜ t .bench ≡ settled (tickSaid ms) b (tickedBench b ms) ⌝ }
 {
-    if 1000 < ms {
+    if LONGEST < ms {
         return Ticked {
             bench: b,
             answer: DoneAnswer::Refused(Refusal::ElapsedTooLong),
@@ -60,20 +63,24 @@ pub fn silence_cause() -> u16
     2001
 }
 
+fn nothing_left(s: Seat, ms: u16) -> bool
+    ensures { λ r. ⌜ r ≡ nothingLeft ms s ⌝ }
+{
+    s.left <= ms as u32
+}
+
 fn falls_silent(s: Seat, ms: u16) -> bool
     ensures { λ r. ⌜ r ≡ fallsSilent ms s ⌝ }
 {
-    s.opened & (s.left <= ms as u32)
+    s.opened & nothing_left(s, ms)
 }
 
 // Several periods that run out in one tick count once.
 fn is_due(s: Seat, ms: u16) -> bool
     ensures { λ r. ⌜ r ≡ isDue ms s ⌝ }
 {
-    let elapsed = ms as u32;
-    let period = s.period as u32;
-    let passed = s.phase as u32 + elapsed;
-    s.opened & (elapsed < s.left) & (period <= passed)
+    let passed = s.phase as u32 + ms as u32;
+    s.opened & !nothing_left(s, ms) & (s.period as u32 <= passed)
 }
 
 // The phase is kept: what is left over when periods run out goes on counting.

@@ -9,6 +9,9 @@ use borrow.Author.Needs.{needs}
 use Rattle.bench.proofs.reporting.report.Statement.{statement}
 use Rattle.bench.proofs.reporting.report.Tie as tie
 
+is-open-requires : tie.Need-is-open-requires
+is-open-requires c κs = search needs
+
 report-verdict-requires : tie.Need-report-verdict-requires
 report-verdict-requires c κs = search needs
 
@@ -20,13 +23,15 @@ enum-told c = search needs
 
 written-requires : tie.Need-written-requires
 written-requires c κs =
-    let a = c .before .before .before .before .before .before .before .args in
-    report-passed (a .n) (a .b .seats) (a .b .signals) (length (a .audio .now)) (c .before .enum-told .given .1) (c .before .before .before .report-verdict .ensures) .0
+    let v = c .before .before .before in
+    let a = v .before .before .before .before .before .args in
+    report-passed (a .n) _ (a .b .signals) (length (a .audio .now)) (c .before .enum-told .given .1) (v .report-verdict .ensures) .0
 
 returns : tie.Need-returns
 returns c =
-    let a = c .before .before .before .before .before .before .before .args in
-    let said = report-refused (a .b) (a .n) (a .timestamp) (a .audio .now) (length (a .out .now)) (c .before .before .before .report-verdict .ensures) (c .before .verdict .given .1) in
+    let v = c .before .before .before in
+    let a = v .before .before .before .before .before .args in
+    let said = report-refused (a .b) (a .n) (a .timestamp) (a .audio .now) (length (a .out .now)) (v .before .is-open .ensures) (v .report-verdict .ensures) (c .before .verdict .given .1) in
     (sym said, (sym (buffer-kept (a .b) (a .n) (a .timestamp) (a .audio .now) (a .out .now) said), simp said))
 
 same-length : tie.Need-same-length
@@ -34,8 +39,9 @@ same-length c = search needs
 
 returns-2 : tie.Need-returns-2
 returns-2 c =
-    let a = c .before .before .before .before .before .before .before .before .before .before .args in
-    let said = report-written (a .b) (a .n) (a .timestamp) (a .audio .now) (length (a .out .now)) (c .before .before .before .before .before .before .report-verdict .ensures) (c .before .before .before .before .enum-told .given .1) in
+    let v = c .before .before .before .before .before .before in
+    let a = v .before .before .before .before .before .args in
+    let said = report-written (a .b) (a .n) (a .timestamp) (a .audio .now) (length (a .out .now)) (v .before .is-open .ensures) (v .report-verdict .ensures) (c .before .before .before .before .enum-told .given .1) in
     let told = c .before .before .written .ensures in
     let answers = told .0 ∙ sym said in (
       answers,
@@ -49,6 +55,7 @@ pub report-spec : {M : Type 1} → statement M
 report-spec =
     tie.close
     (tie.spec
+    is-open-requires
     report-verdict-requires
     enum-known-verdict
     enum-told

@@ -1,4 +1,3 @@
-use Rattle.record.specs.Record.{withSequence}
 use Rattle.bench.specs.Reporting.{reportedBench}
 use Rattle.record.proofs.RecordLaws.{recordCases}
 use borrow.Author.Needs.{needs}
@@ -27,7 +26,7 @@ element-write-after : tie.Need-element-write-after
 element-write-after c = search recordCases
 
 returns : tie.Need-returns
-unfolding reportedBench withSequence
+unfolding reportedBench
 returns c = simp (c .next-sequence .ensures)
 
 pub reported-bench-spec : {M : Type 1} → statement M

@@ -2,6 +2,9 @@ use Rattle.seats.proofs.OpeningLaws.{openingCases}
 use Rattle.seats.proofs.opening.close.Statement.{statement}
 use Rattle.seats.proofs.opening.close.Tie as tie
 
+is-open-requires : tie.Need-is-open-requires
+is-open-requires c κs = search openingCases
+
 seat-verdict-requires : tie.Need-seat-verdict-requires
 seat-verdict-requires c κs = search openingCases
 
@@ -24,6 +27,7 @@ pub close-spec : {M : Type 1} → statement M
 close-spec =
     tie.close
     (tie.spec
+    is-open-requires
     seat-verdict-requires
     enum-known-verdict
     enum-told

@@ -1,5 +1,4 @@
 use Rattle.seats.specs.Opening.{closedBench}
-use Rattle.record.specs.Record.{withSeats, withSeat}
 use Rattle.seats.proofs.OpeningLaws.{openingCases}
 use Rattle.seats.proofs.opening.closed_bench.Statement.{statement}
 use Rattle.seats.proofs.opening.closed_bench.Tie as tie
@@ -17,7 +16,7 @@ element-set-from-next : tie.Need-element-set-from-next
 element-set-from-next c = search openingCases
 
 returns : tie.Need-returns
-unfolding closedBench withSeats withSeat
+unfolding closedBench
 returns c = search openingCases
 
 pub closed-bench-spec : {M : Type 1} → statement M

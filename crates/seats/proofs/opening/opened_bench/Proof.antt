@@ -1,5 +1,4 @@
 use Rattle.seats.specs.Opening.{openedBench}
-use Rattle.record.specs.Record.{withSeats, withSeat, withSequence}
 use Rattle.seats.proofs.OpeningLaws.{openingCases}
 use Rattle.seats.proofs.opening.opened_bench.Statement.{statement}
 use Rattle.seats.proofs.opening.opened_bench.Tie as tie
@@ -29,7 +28,7 @@ element-write-next : tie.Need-element-write-next
 element-write-next c = search openingCases
 
 returns : tie.Need-returns
-unfolding openedBench withSeats withSeat withSequence
+unfolding openedBench
 returns c = cc
 
 pub opened-bench-spec : {M : Type 1} → statement M

@@ -8,9 +8,6 @@ no-such-seat-requires c κs = search openingCases
 returns : tie.Need-returns
 returns c = search openingCases
 
-is-open-requires : tie.Need-is-open-requires
-is-open-requires c κs = search openingCases
-
 returns-2 : tie.Need-returns-2
 returns-2 c = search openingCases
 
@@ -19,4 +16,4 @@ returns-3 c = search openingCases
 
 pub seat-verdict-spec : {M : Type 1} → statement M
 seat-verdict-spec =
-    tie.close (tie.spec no-such-seat-requires returns is-open-requires returns-2 returns-3)
+    tie.close (tie.spec no-such-seat-requires returns returns-2 returns-3)

@@ -1,4 +1,3 @@
-use Rattle.record.specs.Record.{withSeats}
 use Rattle.seats.specs.Ticking.{tickedBench}
 use Rattle.seats.proofs.TickingLaws.{tickingCases}
 use Rattle.seats.proofs.ticking.ticked_bench.Statement.{statement}
@@ -8,7 +7,7 @@ ticked-seats-requires : tie.Need-ticked-seats-requires
 ticked-seats-requires c κs = search tickingCases
 
 returns : tie.Need-returns
-unfolding tickedBench withSeats
+unfolding tickedBench
 returns c = cc
 
 pub ticked-bench-spec : {M : Type 1} → statement M
