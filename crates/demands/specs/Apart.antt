@@ -69,7 +69,7 @@ pub record Apart (machine : Bench → Call → Outcome) (setup : Setup) (x y : B
   pub together : liveAboveTest x seatNumbers ≡ liveAboveTest y seatNumbers
   pub same : (c : Call) → lesson setup (named c) ≡ false → compared setup c (machine x c) ≡ compared setup c (machine y c)
   -- ".. and no lesson audio is sent"
-  pub silent : (n : ℕ) (p : List ℕ) → lesson setup n ≡ true → liveAboveTest (machine x (packet n p) .bench) seatNumbers ≡ true
+  pub no-lesson-audio : (n : ℕ) (p : List ℕ) → lesson setup n ≡ true → liveAboveTest (machine x (packet n p) .bench) seatNumbers ≡ true
       → (missing : ℕ) (reply standby : Bool) (sound : List ℕ) → machine x (packet n p) .answer ≡ accepted (heard missing reply standby sound) → sound ≡ []
 
 abbrev pub LessonsApart : Type 0

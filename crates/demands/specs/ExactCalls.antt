@@ -5,7 +5,8 @@ use mathlib.Core.Path.{_≡_}
 use mathlib.Core.List.{List, []}
 use lib.ListN.{length}
 use Rattle.packet.specs.Refusals.{Case, refused}
-use Rattle.seats.specs.Opening.{openRefusals, closeRefusals}
+use Rattle.record.specs.Record.{seatOf}
+use Rattle.seats.specs.Opening.{openRefusals, seatRefusals}
 use Rattle.seats.specs.Ticking.{tickRefusals}
 use Rattle.seats.specs.Radio.{sideRefusals}
 use Rattle.bench.specs.Hearing.{packetRefusals}
@@ -18,8 +19,8 @@ use Rattle.demands.specs.Exact.{Exact}
 -- other events are never refused."
 abbrev pub refusalsOf : Bench → Call → List Case
 refusalsOf b (opening n r) = openRefusals (b .setup) n (b .seats) r
-refusalsOf b (closing n) = closeRefusals n (b .seats)
-refusalsOf b (packet n p) = packetRefusals (b .setup) n (b .seats) p
+refusalsOf b (closing n) = seatRefusals n (seatOf (b .seats) n .opened)
+refusalsOf b (packet n p) = packetRefusals (b .setup) n (seatOf (b .seats) n) p
 refusalsOf b (tick ms) = tickRefusals ms
 refusalsOf b (report n timestamp sound room) = reportRefusals b n timestamp sound room
 refusalsOf b (received signals level) = []

@@ -50,6 +50,10 @@ pub lesson-flag : (setup : Setup) (n : ℕ) → noSuchSeat n ≡ false → getD 
 unfolding lesson
 lesson-flag setup n real = rw real
 
+-- one set-up has one answer
+pub same-lessons : {setup other : Setup} → other ≡ setup → (n : ℕ) {t : Bool} → lesson setup n ≡ t → lesson other n ≡ t
+same-lessons e n known = ap (λ (s : Setup). lesson s n) e ∙ known
+
 pub seat-put : (ss : List Seat) (m n : ℕ) (s : Seat) → length ss ≡ 8 → noSuchSeat m ≡ false
     → seatOf (set ss (m - 1) s) n ≡ cond (eqb n m) s (seatOf ss n)
 seat-put ss m n s eight there = by-cases (eqb n m) (noSuchSeat n) refl refl

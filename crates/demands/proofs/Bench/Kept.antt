@@ -10,10 +10,9 @@ use borrow.Author.Tests.{eqb-true}
 use Rattle.base.proofs.Places.{set-cases, all-alike}
 use Rattle.packet.specs.Refusals.{NoCase}
 use Rattle.packet.specs.declared.message.Tx.{Tx}
-use Rattle.record.specs.Record.{closedSeat, openedSeat, freshBench, seatOf, withSeats, withSeat, withSequence}
+use Rattle.record.specs.Record.{closedSeat, openedSeat, freshBench, seatOf}
 use Rattle.seats.specs.Opening.{callCode, asksCoupling, holdsCoupling, openedBench, closedBench}
 use Rattle.seats.specs.Ticking.{tickedSeat, tickedBench}
-use Rattle.seats.specs.Radio.{receivedBench, transmitterBench, sidedBench}
 use Rattle.bench.specs.Hearing.{fieldHeard, heardSeat, heardBench, messageIn}
 use Rattle.bench.specs.Reporting.{reportedBench}
 use Rattle.bench.specs.Step.{Call, opening, closing, packet, tick, report, received, transmitter, side, step, after}
@@ -72,7 +71,7 @@ ticked-coupling ms s = ticked-cases (λ t. holdsCoupling t ≡ true → holdsCou
 
 module _ (b : Bench) (kept : Kept b) where
   sequences-kept : (c : Call) → InRange c → (length (benchAfter b c .sequences) ≡ 8) × ((i : ℕ) → getD (benchAfter b c .sequences) i 0 < 65536)
-  unfolding openedBench closedBench heardBench tickedBench reportedBench receivedBench transmitterBench sidedBench withSeat withSeats withSequence
+  unfolding openedBench closedBench heardBench tickedBench reportedBench
   sequences-kept (opening n r) fits =
       (length-set (b .sequences) (n - 1) _ ∙ kept .eight-sequences, λ i. set-fits (b .sequences) (n - 1) (r .sequence) i (fits .1) (kept .sequences-fit))
   sequences-kept (report n timestamp sound room) fits =
@@ -87,7 +86,7 @@ module _ (b : Bench) (kept : Kept b) where
   -- ---- the order
 
   order-kept : (c : Call) → (length (benchAfter b c .order) ≡ length (b .order)) × ((n : ℕ) → count n (benchAfter b c .order) ≡ count n (b .order))
-  unfolding openedBench closedBench heardBench tickedBench reportedBench receivedBench transmitterBench sidedBench withSeat withSeats withSequence
+  unfolding openedBench closedBench heardBench tickedBench reportedBench
   order-kept (packet n p) = (length-order-after n _ _ (b .order), count-order-after n _ _ (b .order))
   order-kept (opening n r) = (refl, λ m. refl)
   order-kept (closing n) = (refl, λ m. refl)
@@ -112,7 +111,7 @@ module _ (b : Bench) (kept : Kept b) where
       by-case : (t : Bool) → eqb n m ≡ t → SeatKept (b .setup) n (cond t (heardSeat (seatOf (b .seats) n) (messageIn p)) (seatOf (b .seats) n))
       by-case true e =
           subst (λ (k : ℕ). SeatKept (b .setup) k (heardSeat (seatOf (b .seats) k) (messageIn p))) (sym (eqb-true n m e))
-          (heard-seat-kept (b .setup) m (b .seats) p (packet-accepted (b .setup) m (b .seats) p none) fits (kept .each-seat m))
+          (heard-seat-kept (b .setup) m (b .seats) p (packet-accepted (b .setup) m (seatOf (b .seats) m) p none) fits (kept .each-seat m))
       by-case false e = kept .each-seat n
   seat-kept (tick ms) fits none n = ticked-seat-kept (b .setup) n ms (seatOf (b .seats) n) (kept .each-seat n)
   seat-kept (report m timestamp sound room) fits none n = kept .each-seat n
@@ -153,9 +152,9 @@ module _ (b : Bench) (kept : Kept b) where
   -- ---- the side of a single radio
 
   main-kept : (c : Call) → InRange c → NoCase (refusalsOf b c) → b .setup .pair ≡ false → benchAfter b c .standby ≡ false
-  unfolding openedBench closedBench heardBench heardSeat tickedBench reportedBench receivedBench transmitterBench sidedBench withSeat withSeats withSequence
+  unfolding openedBench closedBench heardBench heardSeat tickedBench reportedBench
   main-kept (packet n p) fits none single =
-      let new = heard-seat-kept (b .setup) n (b .seats) p (packet-accepted (b .setup) n (b .seats) p none) fits (kept .each-seat n) in
+      let new = heard-seat-kept (b .setup) n (b .seats) p (packet-accepted (b .setup) n (seatOf (b .seats) n) p none) fits (kept .each-seat n) in
       side-stays (seatOf (b .seats) n .heard .field) (fieldHeard (messageIn p)) (b .standby) (new .field-kept .no-item-single single) ∙ kept .single-on-main single
   main-kept (side standby) fits none single = cc (side-accepted (b .setup) none)
   main-kept (opening n r) fits none single = kept .single-on-main single

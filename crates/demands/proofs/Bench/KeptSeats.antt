@@ -157,7 +157,7 @@ module _ (setup : Setup) (n : ℕ) (seats : List Seat) where
         ssrc-fits = fits;
       }
 
-  pub heard-seat-kept : (p : List ℕ) → PacketAccepted setup n seats p → Bytes p → SeatKept setup n (seatOf seats n)
+  pub heard-seat-kept : (p : List ℕ) → PacketAccepted setup n (seatOf seats n) p → Bytes p → SeatKept setup n (seatOf seats n)
       → SeatKept setup n (heardSeat (seatOf seats n) (messageIn p))
   unfolding heardSeat messageOf messageWith
   heard-seat-kept p passed small kept =

@@ -7,10 +7,9 @@ use lib.Dec.{eqb}
 use lib.ListN.{length, length-set, length-map}
 use borrow.Author.Tests.{eqb-true}
 use Rattle.packet.specs.Refusals.{NoCase, Answer, accepted, refused}
-use Rattle.record.specs.Record.{closedSeat, openedSeat, seatOf, withSeats, withSeat, withSequence}
+use Rattle.record.specs.Record.{closedSeat, openedSeat, seatOf}
 use Rattle.seats.specs.Opening.{callCode, openedBench, closedBench}
 use Rattle.seats.specs.Ticking.{tickedSeat, tickedBench}
-use Rattle.seats.specs.Radio.{receivedBench, transmitterBench, sidedBench}
 use Rattle.bench.specs.Hearing.{heardSeat, heardBench, messageIn}
 use Rattle.bench.specs.Reporting.{reportedBench}
 use Rattle.bench.specs.Step.{Call, opening, closing, packet, tick, report, received, transmitter, side, Said, step, after, wasAccepted, acceptedCalls}
@@ -21,14 +20,14 @@ use Rattle.demands.specs.SeatAfter.{seatAfter, seatThrough, SeatsByCalls
 use Rattle.demands.proofs.Demand1.Exact.{exact-judged}
 use Rattle.demands.proofs.Demand1.Calls.{saidBy, benchAfter, step-answer, accepted-bench, after-call}
 use Rattle.demands.proofs.Demand1.ExactCalls.{refused-keeps}
-use Rattle.seats.proofs.Accepted.{open-accepted, close-accepted}
+use Rattle.seats.proofs.Accepted.{open-accepted, seat-accepted}
 use Rattle.bench.proofs.Accepted.{packet-accepted}
 use Rattle.record.proofs.Seats.{seat-put, seat-changed}
 
 -- ---- the set-up, and how many seats
 
 pub same-setup : (b : Bench) (c : Call) → benchAfter b c .setup ≡ b .setup
-unfolding openedBench closedBench heardBench tickedBench reportedBench receivedBench transmitterBench sidedBench withSeat withSeats withSequence
+unfolding openedBench closedBench heardBench tickedBench reportedBench
 same-setup b (opening n r) = refl
 same-setup b (closing n) = refl
 same-setup b (packet n p) = refl
@@ -42,7 +41,7 @@ pub setup-kept : (b : Bench) (c : Call) → step b c .bench .setup ≡ b .setup
 setup-kept b c = after-call (λ (x : Bench). x .setup ≡ b .setup) b c refl (λ none. same-setup b c)
 
 pub as-many-seats : (b : Bench) (c : Call) → length (benchAfter b c .seats) ≡ length (b .seats)
-unfolding openedBench closedBench heardBench tickedBench reportedBench receivedBench transmitterBench sidedBench withSeat withSeats withSequence
+unfolding openedBench closedBench heardBench tickedBench reportedBench
 as-many-seats b (opening n r) = length-set (b .seats) (n - 1) _
 as-many-seats b (closing n) = length-set (b .seats) (n - 1) _
 as-many-seats b (packet n p) = length-set (b .seats) (n - 1) _
@@ -65,12 +64,12 @@ named change ss m n false e = refl
 
 pub seat-made : (b : Bench) (c : Call) → length (b .seats) ≡ 8 → NoCase (refusalsOf b c) → (n : ℕ)
     → seatOf (benchAfter b c .seats) n ≡ seatAfter c n (seatOf (b .seats) n)
-unfolding openedBench closedBench heardBench tickedBench reportedBench receivedBench transmitterBench sidedBench withSeat withSeats withSequence tickedSeat
+unfolding openedBench closedBench heardBench tickedBench reportedBench tickedSeat
 seat-made b (opening m r) eight none n =
     seat-put (b .seats) m n (openedSeat (callCode (r .call)) (r .period) (r .multiplier) (r .ssrc)) eight (open-accepted (b .setup) m (b .seats) r none .is-seat)
-seat-made b (closing m) eight none n = seat-put (b .seats) m n closedSeat eight (close-accepted m (b .seats) none .is-seat)
+seat-made b (closing m) eight none n = seat-put (b .seats) m n closedSeat eight (seat-accepted m (seatOf (b .seats) m .opened) none .is-seat)
 seat-made b (packet m p) eight none n =
-    seat-put (b .seats) m n (heardSeat (seatOf (b .seats) m) (messageIn p)) eight (packet-accepted (b .setup) m (b .seats) p none .is-seat)
+    seat-put (b .seats) m n (heardSeat (seatOf (b .seats) m) (messageIn p)) eight (packet-accepted (b .setup) m (seatOf (b .seats) m) p none .is-seat)
     ∙ named (λ s. heardSeat s (messageIn p)) (b .seats) m n (eqb n m) refl
 seat-made b (tick ms) eight none n = seat-changed (tickedSeat ms) refl (b .seats) n
 seat-made b (report m timestamp sound room) eight none n = refl

@@ -2,10 +2,10 @@
 use mathlib.Core.Path.{_≡_, refl, sym, ap, subst, _∙_}
 use mathlib.Core.List.{List}
 use Rattle.packet.specs.Refusals.{Case, NoCase, Answer, judged}
-use Rattle.record.specs.Record.{settled}
-use Rattle.seats.specs.Opening.{ownId, callCode, openSaid, openedBench, closeSaid, closedBench}
+use Rattle.record.specs.Record.{settled, withSide, withHealth, withSignals}
+use Rattle.seats.specs.Opening.{ownId, callCode, openSaid, openedBench, closeSaid, closedBench, seatVerdict}
 use Rattle.seats.specs.Ticking.{tickSaid, tickSets, tickedBench}
-use Rattle.seats.specs.Radio.{receivedBench, transmitterBench, sidedBench, sideSaid}
+use Rattle.seats.specs.Radio.{sideSaid}
 use Rattle.bench.specs.Hearing.{packetSaid, hearing, heardBench, messageIn}
 use Rattle.bench.specs.Reporting.{reportSaid, reportBytes, reportedBench}
 use Rattle.bench.specs.Step.{Call, opening, closing, packet, tick, report, received, transmitter, side, Said, done, own, ticked, written, told, step}
@@ -31,9 +31,9 @@ benchAfter b (closing n) = closedBench b n
 benchAfter b (packet n p) = heardBench b n (messageIn p)
 benchAfter b (tick ms) = tickedBench b ms
 benchAfter b (report n timestamp sound room) = reportedBench b n
-benchAfter b (received signals level) = receivedBench b signals level
-benchAfter b (transmitter healthy) = transmitterBench b healthy
-benchAfter b (side standby) = sidedBench b standby
+benchAfter b (received signals level) = withSignals b signals level
+benchAfter b (transmitter healthy) = withHealth b healthy
+benchAfter b (side standby) = withSide b standby
 
 -- the value does not matter for whether the bench moves
 settled-judged : {A B : Type 0} (cs : List Case) (a : A) (b : B) (before after : Bench)
@@ -41,7 +41,7 @@ settled-judged : {A B : Type 0} (cs : List Case) (a : A) (b : B) (before after :
 settled-judged cs a b before after = judged-both (λ x y. settled x before after ≡ settled y before after) cs a b (λ n c. refl) (λ none. refl)
 
 pub step-answer : (b : Bench) (c : Call) → step b c .answer ≡ judged (refusalsOf b c) (saidBy b c)
-unfolding step openSaid closeSaid packetSaid tickSaid reportSaid sideSaid
+unfolding step openSaid closeSaid seatVerdict packetSaid tickSaid reportSaid sideSaid
 step-answer b (opening n r) = judged-mapped own (refusalsOf b (opening n r)) (ownId n (callCode (r .call)))
 step-answer b (closing n) = judged-mapped (λ u. done) (refusalsOf b (closing n)) tt
 step-answer b (packet n p) = judged-mapped (told (packetSaid b n p) p) (refusalsOf b (packet n p)) (hearing b n p)
@@ -53,7 +53,7 @@ step-answer b (transmitter healthy) = refl
 step-answer b (side standby) = judged-mapped (λ u. done) (refusalsOf b (side standby)) tt
 
 pub step-bench : (b : Bench) (c : Call) → step b c .bench ≡ settled (judged (refusalsOf b c) (saidBy b c)) b (benchAfter b c)
-unfolding step openSaid closeSaid packetSaid tickSaid reportSaid sideSaid
+unfolding step openSaid closeSaid seatVerdict packetSaid tickSaid reportSaid sideSaid
 step-bench b (opening n r) = settled-judged (refusalsOf b (opening n r)) _ _ b _
 step-bench b (closing n) = settled-judged (refusalsOf b (closing n)) _ _ b _
 step-bench b (packet n p) = settled-judged (refusalsOf b (packet n p)) _ _ b _

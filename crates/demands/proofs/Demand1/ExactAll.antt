@@ -5,7 +5,7 @@ use lib.ListN.{length}
 use Rattle.packet.specs.Refusals.{Answer}
 use Rattle.reader.specs.Reading.{readerRefusals}
 use Rattle.writer.specs.Writing.{encode, filled, writerRefusals, write, buffered}
-use Rattle.seats.specs.Opening.{openRefusals, closeRefusals}
+use Rattle.seats.specs.Opening.{openRefusals, seatRefusals}
 use Rattle.seats.specs.Ticking.{tickRefusals}
 use Rattle.seats.specs.Radio.{sideRefusals}
 use Rattle.air.specs.Air.{among}
@@ -24,7 +24,7 @@ writers-exact =
     }
 
 orders : Orders
-unfolding readerRefusals writerRefusals openRefusals closeRefusals tickRefusals sideRefusals messageRefusals packetRefusals reportRefusals
+unfolding readerRefusals writerRefusals openRefusals seatRefusals tickRefusals sideRefusals messageRefusals packetRefusals reportRefusals
 orders =
     record {
       of-readers = λ d ext p. refl;

@@ -82,9 +82,9 @@ unfolding messageOf messageWith kept itemsHere
 message-says Tx ext p small h =
     let f = field p in
     let passed = field-passed Tx f (h .field-allowed) in
-    let silent = eqb-true (squ f) 0 (passed .squ-allowed) in
+    let no-squ = eqb-true (squ f) 0 (passed .squ-allowed) in
     let single : sct f ≡ 0 = omega (arith, passed .unreserved) in
-    (simp silent, simp single, no-sqi-in-tx (itemsHere p) (items-stand Tx ext p small h))
+    (simp no-squ, simp single, no-sqi-in-tx (itemsHere p) (items-stand Tx ext p small h))
 message-says Rx ext p small h = no-climax-in-rx (itemsHere p) (items-stand Rx ext p small h)
 
 says : (d : Direction) (ext : ℕ) (p : List ℕ) (m : Message) → Bytes p → read d ext p ≡ accepted m → Says d m

@@ -7,6 +7,7 @@ use mathlib.Core.List.{List, [], _∷_}
 use Rattle.base.proofs.Truths.{either-way}
 use Rattle.packet.specs.Refusals.{accepted}
 use Rattle.record.specs.Record.{seatNumbers, lesson, freshBench}
+use Rattle.record.proofs.Seats.{same-lessons}
 use Rattle.bench.specs.Step.{Call, opening, closing, packet, tick, report, received, transmitter, side, heard, step, after}
 use Rattle.record.specs.declared.setup.Setup.{Setup}
 use Rattle.record.specs.declared.seat.Seat.{Seat}
@@ -54,9 +55,6 @@ handled-low setup b (c ∷ cs) e i =
     by-seat (lesson setup (named c)) (isLater b c) refl refl (handled-low setup b cs e i)
     (handled-low setup (step b c .bench) cs (setup-kept b c ∙ e) (held-step b c i))
   where
-    here : (t : Bool) → lesson setup (named c) ≡ t → lesson (b .setup) (named c) ≡ t
-    here t q = ap (λ (s : Setup). lesson s (named c)) e ∙ q
-
     by-seat : (t later : Bool) → lesson setup (named c) ≡ t → isLater b c ≡ later
         → withoutLessons setup (handled b cs) ≡ handled (low b) (withoutLessons setup cs)
         → withoutLessons setup (handled (step b c .bench) cs) ≡ handled (low (step b c .bench)) (withoutLessons setup cs)
@@ -64,11 +62,11 @@ handled-low setup b (c ∷ cs) e i =
         ≡ handled (low b) (cond t (withoutLessons setup cs) (c ∷ withoutLessons setup cs))
     by-seat true true q l nodded stepped = nodded
     by-seat true false q l nodded stepped =
-        simp q (stepped ∙ ap (λ (x : Bench). handled x (withoutLessons setup cs)) (unseen b c (here true q)))
-    by-seat false true q l nodded stepped = simp (later-low b c (here false q), l) nodded
+        simp q (stepped ∙ ap (λ (x : Bench). handled x (withoutLessons setup cs)) (unseen b c (same-lessons e (named c) q)))
+    by-seat false true q l nodded stepped = simp (later-low b c (same-lessons e (named c) q), l) nodded
     by-seat false false q l nodded stepped =
-        simp (q, later-low b c (here false q), l)
-        (ap (c ∷_) (stepped ∙ ap (λ (x : Bench). handled x (withoutLessons setup cs)) (sym (matched b c i (here false q) .bench))))
+        simp (q, later-low b c (same-lessons e (named c) q), l)
+        (ap (c ∷_) (stepped ∙ ap (λ (x : Bench). handled x (withoutLessons setup cs)) (sym (matched b c i (same-lessons e (named c) q) .bench))))
 
 module _ (setup : Setup) (xs ys : List Call) (e : withoutLessons setup xs ≡ withoutLessons setup ys) where
   abbrev handledXs : List Call
@@ -111,20 +109,20 @@ module _ (setup : Setup) (xs ys : List Call) (e : withoutLessons setup xs ≡ wi
       by-call true = nods-same c
       by-call false = lessons-apart setup handledXs handledYs handled-alike .same c live
 
-  silent : (n : ℕ) (p : List ℕ) → lesson setup n ≡ true → liveAboveTest (wrong nodding (ran setup handledXs) (packet n p) .bench) seatNumbers ≡ true
+  no-lesson-audio : (n : ℕ) (p : List ℕ) → lesson setup n ≡ true → liveAboveTest (wrong nodding (ran setup handledXs) (packet n p) .bench) seatNumbers ≡ true
       → (missing : ℕ) (reply standby : Bool) (sound : List ℕ)
       → wrong nodding (ran setup handledXs) (packet n p) .answer ≡ accepted (heard missing reply standby sound) → sound ≡ []
-  silent n p hidden up missing reply standby sound said = by-call (isLater (ran setup handledXs) (packet n p)) up said
+  no-lesson-audio n p hidden up missing reply standby sound said = by-call (isLater (ran setup handledXs) (packet n p)) up said
     where
       by-call : (t : Bool) → liveAboveTest (cond t (nod (ran setup handledXs)) (step (ran setup handledXs) (packet n p)) .bench) seatNumbers ≡ true
           → cond t (nod (ran setup handledXs)) (step (ran setup handledXs) (packet n p)) .answer ≡ accepted (heard missing reply standby sound) → sound ≡ []
       by-call true u q = cc
-      by-call false u q = lessons-apart setup handledXs handledYs handled-alike .silent n p hidden u missing reply standby sound q
+      by-call false u q = lessons-apart setup handledXs handledYs handled-alike .no-lesson-audio n p hidden u missing reply standby sound q
 
 pub nodding-apart : ApartAlone (wrong nodding)
 nodding-apart setup xs ys e = rw (after-handled (freshBench setup) xs, after-handled (freshBench setup) ys)
     (record {
       together = lessons-apart setup (handledXs setup xs ys e) (handledYs setup xs ys e) (handled-alike setup xs ys e) .together;
       same = same setup xs ys e;
-      silent = silent setup xs ys e;
+      no-lesson-audio = no-lesson-audio setup xs ys e;
     })

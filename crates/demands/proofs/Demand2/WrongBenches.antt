@@ -11,8 +11,8 @@ use Rattle.packet.specs.Items.{allZero, itemsIn, itemAllowed, allAllowed, hasTy
 use Rattle.packet.specs.Quality.{quality}
 use Rattle.reader.specs.Reading.{readerRefusals, messageWith, messageOf}
 use Rattle.writer.specs.Writing.{risingItems, itemBytes, wordsOf, headOf, encode}
-use Rattle.record.specs.Record.{seatNumbers, openedSeat, freshBench, seatOf, lesson, withSeats, withSeat, withSequence}
-use Rattle.seats.specs.Opening.{anyCoupling, openRefusals, openSaid, openedBench}
+use Rattle.record.specs.Record.{seatNumbers, openedSeat, freshBench, seatOf, lesson}
+use Rattle.seats.specs.Opening.{anyCoupling, openRefusals, openSaid, openedBench, seatRefusals}
 use Rattle.air.specs.Air.{takesPart, keyingsOf, keyings, topRank, atRank, leaders, added, onAir, among, smallest, howMany, anySends, airOf, benchAir}
 use Rattle.air.specs.Order.{begins, toLast, orderAfter}
 use Rattle.bench.specs.Hearing.{fieldHeard, keyingBarred, idAllowed, sideBarred, messageRefusals, packetRefusals, heardSeat, takesEffect, sideAfter, heardBench, sameField, isSent, hearing, packetSaid, audioIn}
@@ -32,7 +32,7 @@ use Rattle.demands.proofs.Demand2.Nodding.{nodding-apart}
 -- ---- the calls that are tried, computed
 
 tried : Tried
-unfolding centred distance late missing payload payloadAllowed fieldAllowed afterField allZero itemsIn itemAllowed allAllowed hasType noTypeTwice runAllowed itemsAllowed itemsOf sqiAmong climaxAmong sideAmong kept quality readerRefusals messageWith messageOf risingItems itemBytes wordsOf headOf encode openedSeat freshBench seatOf lesson withSeats withSeat withSequence anyCoupling openRefusals openSaid openedBench takesPart keyingsOf keyings topRank atRank leaders added onAir among smallest howMany anySends airOf benchAir fieldHeard keyingBarred idAllowed sideBarred messageRefusals packetRefusals heardSeat begins toLast orderAfter takesEffect sideAfter heardBench sameField isSent hearing packetSaid audioIn reportOf reportBytes reportRefusals reportSaid reportedBench step after
+unfolding centred distance late missing payload payloadAllowed fieldAllowed afterField allZero itemsIn itemAllowed allAllowed hasType noTypeTwice runAllowed itemsAllowed itemsOf sqiAmong climaxAmong sideAmong kept quality readerRefusals messageWith messageOf risingItems itemBytes wordsOf headOf encode openedSeat freshBench seatOf lesson anyCoupling openRefusals openSaid openedBench takesPart keyingsOf keyings topRank atRank leaders added onAir among smallest howMany anySends airOf benchAir fieldHeard keyingBarred idAllowed sideBarred seatRefusals messageRefusals packetRefusals heardSeat begins toLast orderAfter takesEffect sideAfter heardBench sameField isSent hearing packetSaid audioIn reportOf reportBytes reportRefusals reportSaid reportedBench step after
 tried =
     record {
       opens = refl;
@@ -115,7 +115,7 @@ module _ (machine : Machine) (still : (b : Bench) (c : Call) → machine b c .be
       record {
         together = ap (λ (b : Bench). liveAboveTest b seatNumbers) alike;
         same = λ c live. ap (λ (b : Bench). compared setup c (machine b c)) alike;
-        silent = λ n p hidden up missing reply standby sound said. absurd (false≢true
+        no-lesson-audio = λ n p hidden up missing reply standby sound said. absurd (false≢true
             (sym (quiet-start setup) ∙ ap (λ (b : Bench). liveAboveTest b seatNumbers) (sym (still _ _ ∙ stays (freshBench setup) xs)) ∙ up));
       }
 
@@ -160,9 +160,9 @@ module _ (tell : Said → Said) (r : Retelling tell) where
             compared-retold setup c (after (freshBench setup) xs)
             ∙ ap₂ (λ (up : Bool) (a : Answer Said). mapped (r .seen up) a) (together-after c) (lessons-apart setup xs ys e .same c live)
             ∙ sym (compared-retold setup c (after (freshBench setup) ys));
-        silent = λ n p hidden up missing reply standby sound said.
+        no-lesson-audio = λ n p hidden up missing reply standby sound said.
             ap audioSent (sym said) ∙ audio-retold (step (after (freshBench setup) xs) (packet n p) .answer)
-            ∙ none-sent _ (lessons-apart setup xs ys e .silent n p hidden up);
+            ∙ none-sent _ (lessons-apart setup xs ys e .no-lesson-audio n p hidden up);
       })
     where
       together-after : (c : Call) → aboveTestThen setup xs c ≡ aboveTestThen setup ys c

@@ -6,8 +6,8 @@ use mathlib.Core.List.{List, [], _∷_}
 use lib.Dec.{eqb}
 use Rattle.packet.specs.Packet.{test}
 use Rattle.packet.specs.Refusals.{mapped}
-use Rattle.record.specs.Record.{seatNumbers, lesson, freshBench}
-use Rattle.seats.specs.Radio.{receivedBench, transmitterBench}
+use Rattle.record.specs.Record.{seatNumbers, lesson, freshBench, withHealth, withSignals}
+use Rattle.record.proofs.Seats.{same-lessons}
 use Rattle.bench.specs.Step.{Call, opening, closing, packet, tick, report, received, transmitter, side, done, step, after}
 use Rattle.record.specs.declared.setup.Setup.{Setup}
 use Rattle.record.specs.declared.seat.Seat.{Seat}
@@ -21,7 +21,7 @@ use Rattle.demands.proofs.Demand3.BenchAir.{above-test-low}
 use Rattle.demands.proofs.Demand3.LessonCalls.{unseen}
 use Rattle.demands.proofs.Demand3.LiveCalls.{Match, match-plain, match-opening, match-closing, match-tick, match-side}
 use Rattle.demands.proofs.Demand3.LiveReports.{match-report}
-use Rattle.demands.proofs.Demand3.LivePackets.{match-packet, lesson-silent}
+use Rattle.demands.proofs.Demand3.LivePackets.{match-packet, no-lesson-audio}
 
 -- ---- one call
 
@@ -33,9 +33,9 @@ matched b (packet n p) i live = match-packet b n p i live
 matched b (tick ms) i live = match-tick b ms
 matched b (report n timestamp sound room) i live = match-report b n timestamp sound room i live
 matched b (received signals level) i live =
-    unfold step in match-plain (b .setup) (received signals level) (receivedBench b signals level) _ done (unfold receivedBench low in refl)
+    unfold step in match-plain (b .setup) (received signals level) (withSignals b signals level) _ done (unfold low in refl)
 matched b (transmitter healthy) i live =
-    unfold step in match-plain (b .setup) (transmitter healthy) (transmitterBench b healthy) _ done (unfold transmitterBench low in refl)
+    unfold step in match-plain (b .setup) (transmitter healthy) (withHealth b healthy) _ done (unfold low in refl)
 matched b (side standby) i live = match-side b standby
 
 -- and so its answer is the same in all that is compared
@@ -54,7 +54,7 @@ compared-low b c i live =
     test-same : eqb (pttOf (step (low b) c .bench) (named c)) test ≡ eqb (pttOf (step b c .bench) (named c)) test
     test-same =
         ap (λ (x : Bench). eqb (pttOf x (named c)) test) same
-        ∙ ap (λ (s : Seat). eqb (s .heard .field .ptt) test) (seat-low (step b c .bench) (named c) (ap (λ (s : Setup). lesson s (named c)) (setup-kept b c) ∙ live))
+        ∙ ap (λ (s : Seat). eqb (s .heard .field .ptt) test) (seat-low (step b c .bench) (named c) (same-lessons (setup-kept b c) (named c) live))
 
 -- ---- whole runs
 
@@ -65,13 +65,10 @@ low-after setup b [] e i = refl
 low-after setup b (c ∷ cs) e i =
     by-seat (lesson setup (named c)) refl (low-after setup (step b c .bench) cs (setup-kept b c ∙ e) (held-step b c i))
   where
-    here : (t : Bool) → lesson setup (named c) ≡ t → lesson (b .setup) (named c) ≡ t
-    here t q = ap (λ (s : Setup). lesson s (named c)) e ∙ q
-
     by-seat : (t : Bool) → lesson setup (named c) ≡ t → low (after (step b c .bench) cs) ≡ after (low (step b c .bench)) (withoutLessons setup cs)
         → low (after b (c ∷ cs)) ≡ after (low b) (cond t (withoutLessons setup cs) (c ∷ withoutLessons setup cs))
-    by-seat true q rest = rest ∙ ap (λ (x : Bench). after x (withoutLessons setup cs)) (unseen b c (here true q))
-    by-seat false q rest = rest ∙ ap (λ (x : Bench). after x (withoutLessons setup cs)) (sym (matched b c i (here false q) .bench))
+    by-seat true q rest = rest ∙ ap (λ (x : Bench). after x (withoutLessons setup cs)) (unseen b c (same-lessons e (named c) q))
+    by-seat false q rest = rest ∙ ap (λ (x : Bench). after x (withoutLessons setup cs)) (sym (matched b c i (same-lessons e (named c) q) .bench))
 
 -- ---- two runs
 
@@ -92,7 +89,7 @@ module _ (setup : Setup) where
 
   -- whether a seat is a lesson seat, by the set-up that the bench holds
   pub its-lesson : (run : List Call) (n : ℕ) {t : Bool} → lesson setup n ≡ t → lesson (ran setup run .setup) n ≡ t
-  its-lesson run n e = ap (λ (s : Setup). lesson s n) (its-setup run) ∙ e
+  its-lesson run n e = same-lessons (its-setup run) n e
 
   pub low-alike : (xs ys : List Call) → withoutLessons setup xs ≡ withoutLessons setup ys
       → low (ran setup xs) ≡ low (ran setup ys)
@@ -116,5 +113,5 @@ lessons-apart setup xs ys e =
           ∙ above-test-low (ran setup ys);
       same = λ c live.
           sym (compared-run setup xs c live) ∙ ap (λ (x : Bench). compared setup c (step x c)) (low-alike setup xs ys e) ∙ compared-run setup ys c live;
-      silent = λ n p hidden up. lesson-silent (ran setup xs) n p (held setup xs) (its-lesson setup xs n hidden) up;
+      no-lesson-audio = λ n p hidden up. no-lesson-audio (ran setup xs) n p (held setup xs) (its-lesson setup xs n hidden) up;
     }

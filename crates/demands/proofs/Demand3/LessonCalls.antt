@@ -5,7 +5,7 @@ use mathlib.Core.Bool.{true, false, false≢true}
 use mathlib.Core.List.{List}
 use lib.ListN.{getD}
 use Rattle.packet.specs.Refusals.{NoCase}
-use Rattle.record.specs.Record.{noSuchSeat, seatOf, lesson, withSeats, withSeat, withSequence}
+use Rattle.record.specs.Record.{noSuchSeat, seatOf, lesson}
 use Rattle.seats.specs.Opening.{openedBench, closedBench}
 use Rattle.bench.specs.Hearing.{messageIn, fieldHeard, heardBench}
 use Rattle.bench.specs.Reporting.{reportedBench}
@@ -14,7 +14,7 @@ use Rattle.record.specs.declared.whole.Bench.{Bench}
 use Rattle.seats.specs.declared.opening.Request.{Request}
 use Rattle.demands.specs.Apart.{named}
 use Rattle.demands.proofs.Demand3.Blanking.{set-hidden}
-use Rattle.seats.proofs.Accepted.{open-accepted, close-accepted}
+use Rattle.seats.proofs.Accepted.{open-accepted, seat-accepted}
 use Rattle.bench.proofs.Sides.{no-item-lesson, side-stays}
 use Rattle.bench.proofs.Accepted.{PacketAccepted, packet-accepted, report-accepted}
 use Rattle.record.proofs.Seats.{lesson-flag}
@@ -27,18 +27,18 @@ module _ (b : Bench) (n : ℕ) (hidden : lesson (b .setup) n ≡ true) (real : n
   flag = lesson-flag (b .setup) n real ∙ hidden
 
   opened-unseen : (r : Request) → low (openedBench b n r) ≡ low b
-  unfolding low openedBench withSequence withSeat withSeats
+  unfolding low openedBench
   opened-unseen r = simp (set-hidden, flag)
 
   closed-unseen : low (closedBench b n) ≡ low b
-  unfolding low closedBench withSeat withSeats
+  unfolding low closedBench
   closed-unseen = simp (set-hidden, flag)
 
   reported-unseen : low (reportedBench b n) ≡ low b
-  unfolding low reportedBench withSequence
+  unfolding low reportedBench
   reported-unseen = simp (set-hidden, flag)
 
-  heard-unseen : (p : List ℕ) → PacketAccepted (b .setup) n (b .seats) p → low (heardBench b n (messageIn p)) ≡ low b
+  heard-unseen : (p : List ℕ) → PacketAccepted (b .setup) n (seatOf (b .seats) n) p → low (heardBench b n (messageIn p)) ≡ low b
   unfolding low heardBench
   heard-unseen p h =
       let no-item = no-item-lesson (lesson (b .setup) n) (b .setup .pair) (messageIn p) (h .may-ask-side) hidden in
@@ -54,8 +54,8 @@ unseen b c hidden = after-call (λ (x : Bench). low x ≡ low b) b c refl (made-
 
     made-unseen : (c : Call) → lesson (b .setup) (named c) ≡ true → NoCase (refusalsOf b c) → low (benchAfter b c) ≡ low b
     made-unseen (opening n r) hidden none = opened-unseen b n hidden (open-accepted (b .setup) n (b .seats) r none .is-seat) r
-    made-unseen (closing n) hidden none = closed-unseen b n hidden (close-accepted n (b .seats) none .is-seat)
-    made-unseen (packet n p) hidden none = let h = packet-accepted (b .setup) n (b .seats) p none in heard-unseen b n hidden (h .is-seat) p h
+    made-unseen (closing n) hidden none = closed-unseen b n hidden (seat-accepted n (seatOf (b .seats) n .opened) none .is-seat)
+    made-unseen (packet n p) hidden none = let h = packet-accepted (b .setup) n (seatOf (b .seats) n) p none in heard-unseen b n hidden (h .is-seat) p h
     made-unseen (report n timestamp sound room) hidden none = reported-unseen b n hidden (report-accepted b n timestamp sound room none .is-seat)
     made-unseen (tick ms) hidden none = absurd (none-named hidden)
     made-unseen (received signals level) hidden none = absurd (none-named hidden)

@@ -11,10 +11,9 @@ use borrow.Author.Tests.{eqb-true}
 use Rattle.base.proofs.Truths.{or-right}
 use Rattle.packet.specs.Refusals.{NoCase}
 use Rattle.packet.specs.declared.message.Tx.{Tx}
-use Rattle.record.specs.Record.{seatNumbers, noSuchSeat, closedSeat, openedSeat, seatOf, lesson, freshBench, withSeats, withSeat, withSequence}
+use Rattle.record.specs.Record.{seatNumbers, noSuchSeat, closedSeat, openedSeat, seatOf, lesson, freshBench, withSeats}
 use Rattle.seats.specs.Opening.{isTxRx, isCoupling, holdsCoupling, openedBench, closedBench}
 use Rattle.seats.specs.Ticking.{tickedSeat, tickedBench}
-use Rattle.seats.specs.Radio.{receivedBench, transmitterBench, sidedBench}
 use Rattle.air.specs.Air.{rank, among}
 use Rattle.bench.specs.Hearing.{pttOn, keyingBarred, messageIn, heardSeat, fieldHeard, heardBench}
 use Rattle.bench.specs.Reporting.{reportedBench}
@@ -68,18 +67,17 @@ meek-ticked ms s h = ticked-cases Meek ms s meek-closed (λ e younger. h) h
 
 held-seats : (b : Bench) (seats : List Seat) → Held b → ((k : ℕ) → getD (b .setup .lesson) k false ≡ true → Meek (getD seats k closedSeat))
     → Held (withSeats b seats)
-unfolding withSeats
 held-seats b seats i h = record { meek = h; placed = i .placed }
 
 held-opened : (b : Bench) (n : ℕ) (r : Request) → OpenAccepted (b .setup) n (b .seats) r → Held b → Held (openedBench b n r)
-unfolding openedBench withSequence withSeat withSeats openedSeat
+unfolding openedBench openedSeat
 held-opened b n r h i =
     record {
       meek = meek-put (b .setup .lesson) (b .seats) (n - 1) _ (i .meek) (λ e. (omega arith, h .lesson-not-coupling (sym (lesson-flag (b .setup) n (h .is-seat)) ∙ e)));
       placed = i .placed;
     }
 
-pub held-heard : (b : Bench) (n : ℕ) (p : List ℕ) → PacketAccepted (b .setup) n (b .seats) p → Held b → Held (heardBench b n (messageIn p))
+pub held-heard : (b : Bench) (n : ℕ) (p : List ℕ) → PacketAccepted (b .setup) n (seatOf (b .seats) n) p → Held b → Held (heardBench b n (messageIn p))
 unfolding heardBench heardSeat fieldHeard
 held-heard b n p h i =
     record {
@@ -103,13 +101,13 @@ held-ticked b ms i = held-seats b _ i (λ k e. ticked k (i .meek k e))
 held-made : (b : Bench) (c : Call) → Held b → NoCase (refusalsOf b c) → Held (benchAfter b c)
 held-made b (opening n r) i none = held-opened b n r (open-accepted (b .setup) n (b .seats) r none) i
 held-made b (closing n) i none =
-    unfold closedBench withSeat in held-seats b _ i (meek-put (b .setup .lesson) (b .seats) (n - 1) closedSeat (i .meek) (λ e. meek-closed))
-held-made b (packet n p) i none = held-heard b n p (packet-accepted (b .setup) n (b .seats) p none) i
+    unfold closedBench in held-seats b _ i (meek-put (b .setup .lesson) (b .seats) (n - 1) closedSeat (i .meek) (λ e. meek-closed))
+held-made b (packet n p) i none = held-heard b n p (packet-accepted (b .setup) n (seatOf (b .seats) n) p none) i
 held-made b (tick ms) i none = held-ticked b ms i
-held-made b (report n timestamp sound room) i none = unfold reportedBench withSequence in record { meek = i .meek; placed = i .placed }
-held-made b (received signals level) i none = unfold receivedBench in record { meek = i .meek; placed = i .placed }
-held-made b (transmitter healthy) i none = unfold transmitterBench in record { meek = i .meek; placed = i .placed }
-held-made b (side standby) i none = unfold sidedBench in record { meek = i .meek; placed = i .placed }
+held-made b (report n timestamp sound room) i none = unfold reportedBench in record { meek = i .meek; placed = i .placed }
+held-made b (received signals level) i none = record { meek = i .meek; placed = i .placed }
+held-made b (transmitter healthy) i none = record { meek = i .meek; placed = i .placed }
+held-made b (side standby) i none = record { meek = i .meek; placed = i .placed }
 
 pub held-step : (b : Bench) (c : Call) → Held b → Held (step b c .bench)
 held-step b c i = after-call Held b c i (held-made b c i)

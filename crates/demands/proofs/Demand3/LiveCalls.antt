@@ -7,10 +7,10 @@ use lib.Dec.{ltb, eqb}
 use lib.ListN.{getD, List·getD-map}
 use Rattle.packet.specs.Packet.{test}
 use Rattle.packet.specs.Refusals.{Case, NoCase, accepted, judged, mapped}
-use Rattle.record.specs.Record.{seatNumbers, noSuchSeat, closedSeat, lesson, withSeats, withSeat, withSequence}
-use Rattle.seats.specs.Opening.{anyCoupling, openRefusals, openSaid, openedBench, closeRefusals, closeSaid, closedBench}
+use Rattle.record.specs.Record.{seatOf, seatNumbers, noSuchSeat, closedSeat, lesson, withSide}
+use Rattle.seats.specs.Opening.{anyCoupling, openRefusals, openSaid, openedBench, seatRefusals, closeSaid, closedBench, seatVerdict}
 use Rattle.seats.specs.Ticking.{fallsSilent, isDue, tickedSeat, tickRefusals, tickSaid, tickSets, tickedBench}
-use Rattle.seats.specs.Radio.{sidedBench, sideRefusals, sideSaid}
+use Rattle.seats.specs.Radio.{sideRefusals, sideSaid}
 use Rattle.bench.specs.Step.{Call, opening, closing, tick, side, Said, done, own, ticked, Outcome, outcome, step}
 use Rattle.record.specs.declared.setup.Setup.{Setup}
 use Rattle.record.specs.declared.seat.Seat.{Seat}
@@ -68,19 +68,19 @@ match-opening b n r i live =
   where
     opened-low : noSuchSeat n ≡ false → openedBench (low b) n r ≡ low (openedBench b n r)
     opened-low real =
-        unfold openedBench withSequence withSeat withSeats low in
+        unfold openedBench low in
         simp (set-elsewhere closedSeat, set-elsewhere {A = ℕ} 0, lesson-flag (b .setup) n real, live)
 
 pub match-closing : (b : Bench) (n : ℕ) → lesson (b .setup) n ≡ false → Match (b .setup) (closing n) (step b (closing n)) (step (low b) (closing n))
-unfolding step closeSaid
+unfolding step closeSaid seatVerdict
 match-closing b n live =
     match-judged (b .setup) (closing n) b (closedBench b n) (closedBench (low b) n)
-    (closeRefusals n (b .seats)) (closeRefusals n (low b .seats)) tt tt (λ u. done) (λ u. done)
-    (unfold closeRefusals low in simp (live-seat (b .setup) (b .seats) n live))
-    (λ h. match-plain (b .setup) (closing n) (closedBench b n) _ done (closed-low (unfold closeRefusals in h .0)))
+    (seatRefusals n (seatOf (b .seats) n .opened)) (seatRefusals n (seatOf (low b .seats) n .opened)) tt tt (λ u. done) (λ u. done)
+    (unfold seatRefusals low in simp (live-seat (b .setup) (b .seats) n live))
+    (λ h. match-plain (b .setup) (closing n) (closedBench b n) _ done (closed-low (unfold seatRefusals in h .0)))
   where
     closed-low : noSuchSeat n ≡ false → closedBench (low b) n ≡ low (closedBench b n)
-    closed-low real = unfold closedBench withSeat withSeats low in simp (set-elsewhere closedSeat, lesson-flag (b .setup) n real, live)
+    closed-low real = unfold closedBench low in simp (set-elsewhere closedSeat, lesson-flag (b .setup) n real, live)
 
 -- ---- tick
 
@@ -116,7 +116,7 @@ match-tick b ms =
     })
   where
     ticked-low : tickedBench (low b) ms ≡ low (tickedBench b ms)
-    ticked-low = unfold tickedBench withSeats low tickedSeat in simp (map-blank closedSeat (tickedSeat ms) refl (b .setup .lesson) (b .seats))
+    ticked-low = unfold tickedBench low tickedSeat in simp (map-blank closedSeat (tickedSeat ms) refl (b .setup .lesson) (b .seats))
 
     sets-alike : ltb 1000 ms ≡ false
         → ticked (amongLive (b .setup) (tickSets (low b) ms .closed)) (amongLive (b .setup) (tickSets (low b) ms .due))
@@ -130,6 +130,6 @@ match-tick b ms =
 pub match-side : (b : Bench) (standby : Bool) → Match (b .setup) (side standby) (step b (side standby)) (step (low b) (side standby))
 unfolding step sideSaid
 match-side b standby =
-    match-judged (b .setup) (side standby) b (sidedBench b standby) (sidedBench (low b) standby)
+    match-judged (b .setup) (side standby) b (withSide b standby) (withSide (low b) standby)
     (sideRefusals (b .setup)) (sideRefusals (low b .setup)) tt tt (λ u. done) (λ u. done)
-    (unfold low in refl) (λ h. match-plain (b .setup) (side standby) (sidedBench b standby) _ done (unfold sidedBench low in refl))
+    (unfold low in refl) (λ h. match-plain (b .setup) (side standby) (withSide b standby) _ done (unfold low in refl))

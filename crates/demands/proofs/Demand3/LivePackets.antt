@@ -7,7 +7,7 @@ use lib.Dec.{eqb}
 use Rattle.base.specs.Order.{missing}
 use Rattle.packet.specs.Packet.{payload, test}
 use Rattle.packet.specs.Refusals.{NoCase, accepted, mapped}
-use Rattle.record.specs.Record.{seatNumbers, lesson, settled}
+use Rattle.record.specs.Record.{seatOf, seatNumbers, lesson, settled}
 use Rattle.air.specs.Air.{keyings}
 use Rattle.bench.specs.Hearing.{messageIn, messageRefusals, packetRefusals, fieldHeard, heardSeat, heardBench, isSent, hearing, packetSaid, audioIn}
 use Rattle.bench.specs.Step.{packet, heard, told, step}
@@ -25,18 +25,18 @@ use Rattle.demands.proofs.Demand3.SentAudio.{seat-heard, heard-low, sen
 use Rattle.demands.proofs.Demand3.LiveCalls.{Match, match-judged}
 
 -- the audio of an accepted packet, sent or not
-sound-is : (b : Bench) (n : ℕ) (p : List ℕ) → NoCase (packetRefusals (b .setup) n (b .seats) p)
+sound-is : (b : Bench) (n : ℕ) (p : List ℕ) → NoCase (packetRefusals (b .setup) n (seatOf (b .seats) n) p)
     → audioIn (packetSaid b n p) p ≡ cond (isSent b n (messageIn p)) (payload p) []
-sound-is b n p h = audio-sent b n p (hearing b n p) (unfold packetSaid in accepts (hearing b n p) (packetRefusals (b .setup) n (b .seats) p) h)
+sound-is b n p h = audio-sent b n p (hearing b n p) (unfold packetSaid in accepts (hearing b n p) (packetRefusals (b .setup) n (seatOf (b .seats) n) p) h)
 
 module _ (b : Bench) (n : ℕ) (p : List ℕ) (i : Held b) (live : lesson (b .setup) n ≡ false) where
-  refusals-low : packetRefusals (low b .setup) n (low b .seats) p ≡ packetRefusals (b .setup) n (b .seats) p
+  refusals-low : packetRefusals (low b .setup) n (seatOf (low b .seats) n) p ≡ packetRefusals (b .setup) n (seatOf (b .seats) n) p
   unfolding packetRefusals messageRefusals
   refusals-low = simp (seat-low b n live) (unfold low in refl)
 
-  module _ (h : NoCase (packetRefusals (b .setup) n (b .seats) p)) where
-    passed : PacketAccepted (b .setup) n (b .seats) p
-    passed = packet-accepted (b .setup) n (b .seats) p h
+  module _ (h : NoCase (packetRefusals (b .setup) n (seatOf (b .seats) n) p)) where
+    passed : PacketAccepted (b .setup) n (seatOf (b .seats) n) p
+    passed = packet-accepted (b .setup) n (seatOf (b .seats) n) p h
 
     sound-low : audioIn (packetSaid (low b) n p) p ≡ cond (isSent (low b) n (messageIn p)) (payload p) []
     sound-low = sound-is (low b) n p (subst NoCase (sym refusals-low) h)
@@ -80,28 +80,28 @@ module _ (b : Bench) (n : ℕ) (p : List ℕ) (i : Held b) (live : lesson (b .se
   unfolding step packetSaid named
   match-packet =
       match-judged (b .setup) (packet n p) b (heardBench b n (messageIn p)) (heardBench (low b) n (messageIn p))
-      (packetRefusals (b .setup) n (b .seats) p) (packetRefusals (low b .setup) n (low b .seats) p) (hearing b n p) (hearing (low b) n p)
+      (packetRefusals (b .setup) n (seatOf (b .seats) n) p) (packetRefusals (low b .setup) n (seatOf (low b .seats) n) p) (hearing b n p) (hearing (low b) n p)
       (told (packetSaid b n p) p) (told (packetSaid (low b) n p) p) refusals-low
       (λ h. record { bench = heard-low b n (messageIn p) live (passed h .is-seat); answer = ap accepted (answer-low h _ _ refl refl) })
 
 -- ---- a lesson seat's packet: "no lesson audio is sent"
 
 module _ (b : Bench) (n : ℕ) (p : List ℕ) (i : Held b) (hidden : lesson (b .setup) n ≡ true) where
-  lesson-unsent : NoCase (packetRefusals (b .setup) n (b .seats) p) → liveAboveTest (heardBench b n (messageIn p)) seatNumbers ≡ true
+  lesson-unsent : NoCase (packetRefusals (b .setup) n (seatOf (b .seats) n) p) → liveAboveTest (heardBench b n (messageIn p)) seatNumbers ≡ true
       → isSent b n (messageIn p) ≡ false
   lesson-unsent h up =
-      let passed = packet-accepted (b .setup) n (b .seats) p h in
+      let passed = packet-accepted (b .setup) n (seatOf (b .seats) n) p h in
       let next-held = held-heard b n p passed i in
       sent-is b n (messageIn p) (passed .is-seat)
       ∙ lesson-off-air (heardBench b n (messageIn p) .setup) (heardBench b n (messageIn p) .seats) (keyings (heardBench b n (messageIn p)))
       (keyings-test-at-most (heardBench b n (messageIn p)) next-held) (up-is (heardBench b n (messageIn p)) next-held up) n (unfold heardBench in hidden)
 
-  pub lesson-silent : liveAboveTest (step b (packet n p) .bench) seatNumbers ≡ true → (missing : ℕ) (reply standby : Bool) (sound : List ℕ)
+  pub no-lesson-audio : liveAboveTest (step b (packet n p) .bench) seatNumbers ≡ true → (missing : ℕ) (reply standby : Bool) (sound : List ℕ)
       → step b (packet n p) .answer ≡ accepted (heard missing reply standby sound) → sound ≡ []
   unfolding step packetSaid
-  lesson-silent up m r s sound e =
+  no-lesson-audio up m r s sound e =
       judged-one
       (λ a. liveAboveTest (settled a b (heardBench b n (messageIn p))) seatNumbers ≡ true → mapped (told (packetSaid b n p) p) a ≡ accepted (heard m r s sound) → sound ≡ [])
-      (packetRefusals (b .setup) n (b .seats) p) (hearing b n p) (λ k c u q. cc)
+      (packetRefusals (b .setup) n (seatOf (b .seats) n) p) (hearing b n p) (λ k c u q. cc)
       (λ h u q. let audio : audioIn (packetSaid b n p) p ≡ sound = cc in
       sym audio ∙ sound-is b n p h ∙ ap (λ (t : Bool). cond t (payload p) []) (lesson-unsent h u)) up e

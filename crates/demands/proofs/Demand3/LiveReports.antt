@@ -15,7 +15,7 @@ use Rattle.packet.specs.declared.message.ClimaxItem.the-variants as climax
 use Rattle.packet.specs.declared.message.Items.{Items}
 use Rattle.packet.specs.declared.message.Message.{Message}
 use Rattle.packet.specs.declared.message.Rx.{Rx}
-use Rattle.record.specs.Record.{seatNumbers, noSuchSeat, seatOf, lesson, withSequence}
+use Rattle.record.specs.Record.{seatNumbers, noSuchSeat, seatOf, lesson}
 use Rattle.air.specs.Air.{benchAir}
 use Rattle.bench.specs.Reporting.{squTold, sctTold, sqiTold, sideTold, reportOf, reportBytes, reportRefusals, reportSaid, reportedBench}
 use Rattle.bench.specs.Step.{report, written, step}
@@ -117,7 +117,7 @@ module _ (b : Bench) (n timestamp : ℕ) (live : lesson (b .setup) n ≡ false) 
 
 -- a report changes nobody's keying
 pub above-reported : (b : Bench) (n : ℕ) → liveAboveTest (reportedBench b n) seatNumbers ≡ liveAboveTest b seatNumbers
-unfolding reportedBench withSequence liveAboveTest
+unfolding reportedBench liveAboveTest
 above-reported b n = refl
 
 module _ (b : Bench) (n timestamp : ℕ) (sound : List ℕ) (room : ℕ) (i : Held b) (live : lesson (b .setup) n ≡ false) where
@@ -130,7 +130,7 @@ module _ (b : Bench) (n timestamp : ℕ) (sound : List ℕ) (room : ℕ) (i : He
   refusals-low = simp (length-low, seat-low b n live) (unfold low in refl)
 
   reported-low : noSuchSeat n ≡ false → reportedBench (low b) n ≡ low (reportedBench b n)
-  unfolding reportedBench withSequence
+  unfolding reportedBench
   reported-low real = simp (sequence-low b n live real) (unfold low in simp (set-elsewhere {A = ℕ} 0, lesson-flag (b .setup) n real, live))
 
   told-low : noSuchSeat n ≡ false → (t : Bool) → liveAboveTest b seatNumbers ≡ t

@@ -32,7 +32,7 @@ put-open [] k s e = absurd (false≢true e)
 put-open (x ∷ l) zero s e = refl
 put-open (x ∷ l) (suc k) s e = put-open l k s e
 
-pub seat-heard : (b : Bench) (n : ℕ) (p : List ℕ) → PacketAccepted (b .setup) n (b .seats) p
+pub seat-heard : (b : Bench) (n : ℕ) (p : List ℕ) → PacketAccepted (b .setup) n (seatOf (b .seats) n) p
     → seatOf (heardBench b n (messageIn p) .seats) n ≡ heardSeat (seatOf (b .seats) n) (messageIn p)
 unfolding heardBench
 seat-heard b n p h =
@@ -88,7 +88,7 @@ part-above healthy s other h =
 
 -- ---- a live seat's packet
 
-module _ (b : Bench) (n : ℕ) (p : List ℕ) (i : Held b) (live : lesson (b .setup) n ≡ false) (h : PacketAccepted (b .setup) n (b .seats) p) where
+module _ (b : Bench) (n : ℕ) (p : List ℕ) (i : Held b) (live : lesson (b .setup) n ≡ false) (h : PacketAccepted (b .setup) n (seatOf (b .seats) n) p) where
   abbrev m : Tx
   m = messageIn p
 

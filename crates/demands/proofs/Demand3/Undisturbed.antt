@@ -136,8 +136,8 @@ undisturbed setup run =
     by-seat : (n : ℕ) (p : List ℕ) → liveAboveTest (step (ran setup run) (packet n p) .bench) seatNumbers ≡ true → (t : Bool) → lesson setup n ≡ t
         → audioSent (step (ran setup run) (packet n p) .answer) ≡ audioSent (step (ran setup (withoutLessons setup run)) (packet n p) .answer)
     by-seat n p up true hidden =
-        none-sent _ (apart setup run .silent n p hidden up)
-        ∙ sym (none-sent _ (lessons-apart setup (withoutLessons setup run) run (out-twice setup run) .silent n p hidden (up-alone n p up)))
+        none-sent _ (apart setup run .no-lesson-audio n p hidden up)
+        ∙ sym (none-sent _ (lessons-apart setup (withoutLessons setup run) run (out-twice setup run) .no-lesson-audio n p hidden (up-alone n p up)))
     by-seat n p up false live =
         ap audioSent
         (sym (packet-whole setup (ran setup run) n p up)

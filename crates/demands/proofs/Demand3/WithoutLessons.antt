@@ -6,7 +6,7 @@ use mathlib.Core.List.{List, [], _∷_, _++_, append-nil}
 use lib.Dec.{eqb}
 use lib.ListN.{getD}
 use borrow.Author.Tests.{eqb-true}
-use Rattle.record.specs.Record.{noSuchSeat, closedSeat, seatOf, lesson}
+use Rattle.record.specs.Record.{noSuchSeat, closedSeat, seatOf, lesson, withSeats, withSequences, withOrder}
 use Rattle.air.specs.Order.{toLast, begins, orderAfter}
 use Rattle.record.specs.declared.setup.Setup.{Setup}
 use Rattle.record.specs.declared.seat.Field.{Field}
@@ -24,16 +24,8 @@ liveSeats setup seats = blank closedSeat (setup .lesson) seats
 
 unfoldable pub low : Bench → Bench
 low b =
-    record {
-      setup = b .setup;
-      seats = liveSeats (b .setup) (b .seats);
-      sequences = blank 0 (b .setup .lesson) (b .sequences);
-      order = liveOrder (b .setup) (b .order);
-      standby = b .standby;
-      healthy = b .healthy;
-      signals = b .signals;
-      level = b .level;
-    }
+    withOrder (withSequences (withSeats b (liveSeats (b .setup) (b .seats))) (blank 0 (b .setup .lesson) (b .sequences)))
+    (liveOrder (b .setup) (b .order))
 
 -- ---- seats
 
