@@ -23,8 +23,8 @@ use packet::RxRead;
 use packet::Tx;
 use packet::TxRead;
 use packet::payload;
-use words::put;
-use words::put_number;
+use text::put;
+use text::put_number;
 
 // The bench after a call, and where the answer ends.
 pub struct Said {

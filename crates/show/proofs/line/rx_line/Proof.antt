@@ -1,5 +1,5 @@
 use borrow.Author.Needs.{needs}
-use Rattle.words.proofs.Writing.{_then_, kept}
+use Rattle.text.proofs.Writing.{_then_, kept}
 use Rattle.show.specs.Lines.{rxLine}
 use Rattle.show.proofs.line.rx_line.Statement.{statement}
 use Rattle.show.proofs.line.rx_line.Tie as tie
@@ -58,8 +58,8 @@ slice-aggregate-named-bit-4 c = search needs
 named-bit-requires-4 : tie.Need-named-bit-requires-4
 named-bit-requires-4 c κs = search needs
 
-put-quality-requires : tie.Need-put-quality-requires
-put-quality-requires c κs = search needs
+put-sqi-requires : tie.Need-put-sqi-requires
+put-sqi-requires c κs = search needs
 
 put-side-requires : tie.Need-put-side-requires
 put-side-requires c κs = search needs
@@ -75,8 +75,8 @@ unfolding rxLine
 returns c =
     let audio = c .before .before in
     let side = audio .before .before .before .before .before in
-    let quality = side .before .before .before .before in
-    let sct = quality .before .before .before .before in
+    let sqi = side .before .before .before .before in
+    let sct = sqi .before .before .before .before in
     let ptts = sct .before .before .before .before .before in
     let pm = ptts .before .before .before .before .before in
     let id = pm .before .before .before .before .before in
@@ -94,7 +94,7 @@ returns c =
     then pm .named-bit2 .ensures
     then ptts .named-bit3 .ensures
     then sct .named-bit4 .ensures
-    then quality .put-quality .ensures
+    then sqi .put-sqi .ensures
     then side .put-side .ensures
     then audio .named-number3 .ensures
 
@@ -123,7 +123,7 @@ rx-line-spec =
     named-bit-requires-3
     slice-aggregate-named-bit-4
     named-bit-requires-4
-    put-quality-requires
+    put-sqi-requires
     put-side-requires
     slice-aggregate-named-number-3
     named-number-requires-3

@@ -1,5 +1,5 @@
 use borrow.Author.Needs.{needs}
-use Rattle.words.proofs.Writing.{_then_, kept}
+use Rattle.text.proofs.Writing.{_then_, kept}
 use Rattle.show.specs.Lines.{txLine}
 use Rattle.show.proofs.line.tx_line.Statement.{statement}
 use Rattle.show.proofs.line.tx_line.Tie as tie
@@ -46,8 +46,8 @@ slice-aggregate-named-bit-2 c = search needs
 named-bit-requires-2 : tie.Need-named-bit-requires-2
 named-bit-requires-2 c κs = search needs
 
-put-delay-requires : tie.Need-put-delay-requires
-put-delay-requires c κs = search needs
+put-climax-requires : tie.Need-put-climax-requires
+put-climax-requires c κs = search needs
 
 put-side-requires : tie.Need-put-side-requires
 put-side-requires c κs = search needs
@@ -63,8 +63,8 @@ unfolding txLine
 returns c =
     let audio = c .before .before in
     let side = audio .before .before .before .before .before in
-    let delay = side .before .before .before .before in
-    let ptts = delay .before .before .before .before in
+    let climax = side .before .before .before .before in
+    let ptts = climax .before .before .before .before in
     let pm = ptts .before .before .before .before .before in
     let id = pm .before .before .before .before .before in
     let ptt = id .before .before .before .before .before .before in
@@ -78,7 +78,7 @@ returns c =
     then id .named-number2 .ensures
     then pm .named-bit .ensures
     then ptts .named-bit2 .ensures
-    then delay .put-delay .ensures
+    then climax .put-climax .ensures
     then side .put-side .ensures
     then audio .named-number3 .ensures
 
@@ -103,7 +103,7 @@ tx-line-spec =
     named-bit-requires
     slice-aggregate-named-bit-2
     named-bit-requires-2
-    put-delay-requires
+    put-climax-requires
     put-side-requires
     slice-aggregate-named-number-3
     named-number-requires-3

@@ -1,5 +1,5 @@
 use borrow.Author.Needs.{needs}
-use Rattle.words.proofs.Writing.{_then_}
+use Rattle.text.proofs.Writing.{_then_}
 use Rattle.show.proofs.pieces.put_stamp.Statement.{statement}
 use Rattle.show.proofs.pieces.put_stamp.Tie as tie
 
