@@ -19,13 +19,19 @@ use Rattle.packet.specs.declared.message.SqiItem.the-variants as sqi
 use Rattle.packet.specs.declared.message.Tx.{Tx}
 use Rattle.packet.specs.declared.message.Rx.{Rx}
 
--- "Numbers are decimal"
-abbrev pub stampText : (sequence timestamp ssrc : ℕ) → List ℕ
-stampText q t s = (text " seq=" ++ decimal q) ++ (text " ts=" ++ decimal t) ++ (text " ssrc=" ++ decimal s)
-
 -- "kind is R2S or AUDIO"
 abbrev pub kindText : (audio : ℕ) → List ℕ
 kindText n = cond (eqb n 0) (text " kind=R2S") (text " kind=AUDIO")
+
+-- What the lines of both directions begin with. "Numbers are decimal"
+abbrev pub headText : (name : List ℕ) (sequence timestamp ssrc audio ptt : ℕ) → List ℕ
+headText name q t s n ptt =
+    name
+    ++ (text " seq=" ++ decimal q)
+    ++ (text " ts=" ++ decimal t)
+    ++ (text " ssrc=" ++ decimal s)
+    ++ kindText n
+    ++ (text " ptt=" ++ decimal ptt)
 
 -- "cld is the 7-bit delay value, mss 0 or 1, `-` an absent item"
 abbrev pub climaxText : ClimaxItem → List ℕ
@@ -40,10 +46,7 @@ sideText side-item.Standby = text " mss=1"
 -- "`TX seq=1 ts=0 ssrc=7 kind=R2S ptt=1 id=2 pm=0 ptts=0 cld=- mss=- audio=0`"; "audio is the payload length"
 unfoldable pub txLine : Tx → (audio : ℕ) → List ℕ
 txLine m n =
-    text "TX"
-    ++ stampText (m .sequence) (m .timestamp) (m .ssrc)
-    ++ kindText n
-    ++ (text " ptt=" ++ decimal (m .ptt))
+    headText (text "TX") (m .sequence) (m .timestamp) (m .ssrc) n (m .ptt)
     ++ (text " id=" ++ decimal (m .id))
     ++ (text " pm=" ++ bitText (m .pm))
     ++ (text " ptts=" ++ bitText (m .ptts))
@@ -63,10 +66,7 @@ sqiText (sqi.Is value method) = (text " sqi=" ++ decimal value) ++ (text "/" ++ 
 
 unfoldable pub rxLine : Rx → (audio : ℕ) → List ℕ
 rxLine m n =
-    text "RX"
-    ++ stampText (m .sequence) (m .timestamp) (m .ssrc)
-    ++ kindText n
-    ++ (text " ptt=" ++ decimal (m .ptt))
+    headText (text "RX") (m .sequence) (m .timestamp) (m .ssrc) n (m .ptt)
     ++ (text " squ=" ++ bitText (m .squ))
     ++ (text " id=" ++ decimal (m .id))
     ++ (text " pm=" ++ bitText (m .pm))

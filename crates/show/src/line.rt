@@ -5,26 +5,21 @@ ghost use Rattle.show.specs.Lines.{txLine, rxLine, refusedLine, refusalL
 use crate::pieces::named_bit;
 use crate::pieces::named_number;
 use crate::pieces::put_climax;
-use crate::pieces::put_kind;
+use crate::pieces::put_head;
 use crate::pieces::put_side;
 use crate::pieces::put_sqi;
-use crate::pieces::put_stamp;
 use packet::Refusal;
 use packet::Rx;
 use packet::Tx;
 use packet::cause;
 use packet::number;
-use text::put;
 
 pub fn tx_line(out: &mut [u8], m: Tx, audio: usize) -> usize
     ensures { λ r. ⌜ Written (now (out .entry)) (now (out .exit)) 0 r (txLine m audio) ⌝ }
 {
     let climax = m.climax;
     let side = m.side;
-    let at = put(out, 0, b"TX");
-    let at = put_stamp(out, at, m.sequence, m.timestamp, m.ssrc);
-    let at = put_kind(out, at, audio);
-    let at = named_number(out, at, b" ptt=", m.ptt as u64);
+    let at = put_head(out, b"TX", m.sequence, m.timestamp, m.ssrc, audio, m.ptt);
     let at = named_number(out, at, b" id=", m.id as u64);
     let at = named_bit(out, at, b" pm=", m.pm);
     let at = named_bit(out, at, b" ptts=", m.ptts);
@@ -38,10 +33,7 @@ pub fn rx_line(out: &mut [u8], m: Rx, audio: usize) -> usize
 {
     let sqi = m.sqi;
     let side = m.side;
-    let at = put(out, 0, b"RX");
-    let at = put_stamp(out, at, m.sequence, m.timestamp, m.ssrc);
-    let at = put_kind(out, at, audio);
-    let at = named_number(out, at, b" ptt=", m.ptt as u64);
+    let at = put_head(out, b"RX", m.sequence, m.timestamp, m.ssrc, audio, m.ptt);
     let at = named_bit(out, at, b" squ=", m.squ);
     let at = named_number(out, at, b" id=", m.id as u64);
     let at = named_bit(out, at, b" pm=", m.pm);

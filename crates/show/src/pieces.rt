@@ -1,7 +1,7 @@
 // The pieces of a line. Each writes at a place and returns the next one.
 ghost use mathlib.Core.List.{_++_};
 ghost use Rattle.text.specs.Text.{Written, decimal, bitText};
-ghost use Rattle.show.specs.Lines.{stampText, kindText, sqiText, climaxText, sideText};
+ghost use Rattle.show.specs.Lines.{kindText, headText, sqiText, climaxText, sideText};
 use packet::ClimaxItem;
 use packet::SideItem;
 use packet::SqiItem;
@@ -23,14 +23,6 @@ pub fn named_bit(out: &mut [u8], at: usize, name: &[u8], b: bool) -> usize
     put_bit(out, next, b)
 }
 
-pub fn put_stamp(out: &mut [u8], at: usize, sequence: u16, timestamp: u32, ssrc: u32) -> usize
-    ensures { λ r. ⌜ Written (now (out .entry)) (now (out .exit)) at r (stampText sequence timestamp ssrc) ⌝ }
-{
-    let after = named_number(out, at, b" seq=", sequence as u64);
-    let next = named_number(out, after, b" ts=", timestamp as u64);
-    named_number(out, next, b" ssrc=", ssrc as u64)
-}
-
 pub fn put_kind(out: &mut [u8], at: usize, audio: usize) -> usize
     ensures { λ r. ⌜ Written (now (out .entry)) (now (out .exit)) at r (kindText audio) ⌝ }
 {
@@ -39,6 +31,26 @@ pub fn put_kind(out: &mut [u8], at: usize, audio: usize) -> usize
     } else {
         put(out, at, b" kind=AUDIO")
     }
+}
+
+// What the lines of both directions begin with.
+pub fn put_head(
+    out: &mut [u8],
+    name: &[u8],
+    sequence: u16,
+    timestamp: u32,
+    ssrc: u32,
+    audio: usize,
+    ptt: u8,
+) -> usize
+    ensures { λ r. ⌜ Written (now (out .entry)) (now (out .exit)) 0 r (headText (now (name .entry)) sequence timestamp ssrc audio ptt) ⌝ }
+{
+    let at = put(out, 0, name);
+    let at = named_number(out, at, b" seq=", sequence as u64);
+    let at = named_number(out, at, b" ts=", timestamp as u64);
+    let at = named_number(out, at, b" ssrc=", ssrc as u64);
+    let at = put_kind(out, at, audio);
+    named_number(out, at, b" ptt=", ptt as u64)
 }
 
 pub fn put_sqi(out: &mut [u8], at: usize, item: SqiItem) -> usize
