@@ -1,4 +1,4 @@
-// The pieces of a line. Each writes at a place and returns the next one.
+// The pieces of a line. Each returns the place after what it writes.
 ghost use mathlib.Core.List.{_++_};
 ghost use Rattle.text.specs.Text.{Written, decimal, bitText};
 ghost use Rattle.show.specs.Lines.{kindText, headText, sqiText, climaxText, sideText};
