@@ -1,15 +1,16 @@
 -- Bytes laid over the front of a buffer: how a copy does it, that one prefix and then another behind it are both, and
--- what is there where there is room.
-use Prim.Native.Nat.{ℕ, _+_, _-_, _≤_, _<_, min}
+-- what is there where there is room. Bytes stored from a place on, one behind the other.
+use Prim.Native.Nat.{ℕ, suc, _+_, _-_, _≤_, _<_, min}
 use mathlib.Core.Path.{_≡_, refl, ap, sym, _∙_}
-use mathlib.Core.List.{List, [], _++_, append-assoc, append-nil}
+use mathlib.Core.List.{List, [], _∷_, _++_, append-assoc, append-nil}
 use mathlib.Core.Bool.{Bool, true, false}
 use native.Mathlib.Omega.{arith}
+use native.Mathlib.Nat.{add-zero}
 use borrow.Author.Tests.{leb-true, leb-false}
 use borrow.Rule.Slice.PartMut.{putMid}
 use lib.Dec.{leb}
-use lib.ListN.{length, take, drop, length-append, length-take, length-drop, drop-of-length-le}
-use lib.Seq.{take-all, drop-nil, take-length, take-append-le, take-append-add, take-at, drop-at, drop-drop, take-take, take-append-seam}
+use lib.ListN.{length, set, take, drop, length-append, length-take, length-drop, drop-of-length-le}
+use lib.Seq.{sets, take-all, drop-nil, take-length, take-append-le, take-append-add, take-at, drop-at, drop-drop, take-take, take-append-seam}
 use Rattle.base.specs.Bytes.{overlaid, padded}
 use Rattle.base.proofs.Parts.{part-to-end}
 
@@ -75,3 +76,10 @@ module _ (P Q l : List ℕ) where
 -- bytes with zeros behind them, without the zeros
 pub unpadded : (P : List ℕ) (n : ℕ) → length P ≤ n → take (length P) (padded n P) ≡ P
 unpadded P n h = rw (take-take, take-append-seam)
+
+-- bytes stored from a place on, then others behind them
+pub sets-append : (l a b : List ℕ) (i : ℕ) → sets l i (a ++ b) ≡ sets (sets l i a) (i + length a) b
+sets-append l [] b i = rw add-zero
+sets-append l (x ∷ a) b i =
+    let e : suc i + length a ≡ i + suc (length a) = omega arith in
+    sets-append (set l i x) a b (suc i) ∙ ap (λ (k : ℕ). sets (sets (set l i x) (suc i) a) k b) e

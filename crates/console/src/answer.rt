@@ -23,8 +23,8 @@ use packet::Tx;
 use reader::RxRead;
 use reader::TxRead;
 use reader::payload;
-use words::put;
-use words::put_number;
+use text::put;
+use text::put_number;
 
 // The bench after a call, and where the answer ends.
 pub struct Said {

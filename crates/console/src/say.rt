@@ -5,14 +5,12 @@ use base::part;
 use bench::Hearing;
 use bench::SeatSets;
 use packet::Refusal;
-use packet::cause;
-use packet::number;
-use show::refused_line;
-use words::put;
-use words::put_bit;
-use words::put_byte;
-use words::put_hex;
-use words::put_number;
+use show::refusal_line;
+use text::put;
+use text::put_bit;
+use text::put_byte;
+use text::put_bytes;
+use text::put_number;
 use writer::Written;
 
 pub fn ok(out: &mut [u8]) -> usize {
@@ -20,9 +18,7 @@ pub fn ok(out: &mut [u8]) -> usize {
 }
 
 pub fn refused(out: &mut [u8], r: Refusal) -> usize {
-    let at = refused_line(out, number(r));
-    let next = put(out, at, b" cause ");
-    put_number(out, next, cause(r) as u64)
+    refusal_line(out, r)
 }
 
 pub fn ticked_line(out: &mut [u8], sets: SeatSets) -> usize {
@@ -62,14 +58,6 @@ fn put_side(out: &mut [u8], at: usize, standby: bool) -> usize {
         put(out, at, b" side=standby")
     } else {
         put(out, at, b" side=main")
-    }
-}
-
-fn put_bytes(out: &mut [u8], at: usize, bytes: &[u8]) -> usize {
-    if bytes.len() == 0 {
-        put(out, at, b"-")
-    } else {
-        put_hex(out, at, bytes)
     }
 }
 

@@ -6,7 +6,7 @@ use base::part;
 use bench::Bench;
 use libc::STDIN_FILENO;
 use libc::STDOUT_FILENO;
-use words::put_byte;
+use text::put_byte;
 
 // The longest line that is read, without its end.
 pub const LINE: usize = 2048;

@@ -1,7 +1,7 @@
 // The calls as they are to be written, for `help` and for what a wrong line is told.
+use text::put;
+use text::put_byte;
 use words::choice;
-use words::put;
-use words::put_byte;
 use words::word;
 
 // How many calls there are.

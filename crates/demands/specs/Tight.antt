@@ -14,6 +14,7 @@ use Rattle.record.proofs as the-record
 use Rattle.seats.proofs as seats
 use Rattle.air.proofs as air
 use Rattle.bench.proofs as bench
+use Rattle.text.proofs as text
 use Rattle.words.proofs as words
 use Rattle.show.proofs as show
 
@@ -96,12 +97,15 @@ pub record TightBench : Type 1 where
   pub audio : OnePart bench.audio.Reads.Learnt
   pub report : OneResultAndBuffer bench.report.Reads.Learnt (λ k e. e .1 .1 .1 .1 .0)
 
+pub record TightText : Type 1 where
+  pub put-byte : OneResultAndBuffer text.put_byte.Reads.Learnt (λ k e. e .0)
+  pub put : OneResultAndBuffer text.put.Reads.Learnt (λ k e. e .0)
+  pub put-bit : OneResultAndBuffer text.put_bit.Reads.Learnt (λ k e. e .0)
+  pub put-number : OneResultAndBuffer text.put_number.Reads.Learnt (λ k e. e .0)
+  pub put-hex : OneResultAndBuffer text.put_hex.Reads.Learnt (λ k e. e .0)
+  pub put-bytes : OneResultAndBuffer text.put_bytes.Reads.Learnt (λ k e. e .0)
+
 pub record TightWords : Type 1 where
-  pub put-byte : OneResultAndBuffer words.put_byte.Reads.Learnt (λ k e. e .0)
-  pub put : OneResultAndBuffer words.put.Reads.Learnt (λ k e. e .0)
-  pub put-bit : OneResultAndBuffer words.put_bit.Reads.Learnt (λ k e. e .0)
-  pub put-number : OneResultAndBuffer words.put_number.Reads.Learnt (λ k e. e .0)
-  pub put-hex : OneResultAndBuffer words.put_hex.Reads.Learnt (λ k e. e .0)
   pub word : OnePart words.word.Reads.Learnt
   pub last : OnePart words.last.Reads.Learnt
   pub choice : OneResult words.choice.Reads.Learnt
@@ -119,10 +123,11 @@ pub record TightShow : Type 1 where
   pub tx-line : OneResultAndBuffer show.tx_line.Reads.Learnt (λ k e. e .0)
   pub rx-line : OneResultAndBuffer show.rx_line.Reads.Learnt (λ k e. e .0)
   pub refused-line : OneResultAndBuffer show.refused_line.Reads.Learnt (λ k e. e .0)
+  pub refusal-line : OneResultAndBuffer show.refusal_line.Reads.Learnt (λ k e. e .0)
   pub answer-line : OneResultAndBuffer show.answer_line.Reads.Learnt (λ k e. e .0)
   pub decode : OneResultAndBuffer show.decode.Reads.Learnt (λ k e. e .0)
 
--- All 69.
+-- All 71.
 pub record Tight : Type 1 where
   pub base : TightBase
   pub packet : TightPacket
@@ -132,5 +137,6 @@ pub record Tight : Type 1 where
   pub seats : TightSeats
   pub air : TightAir
   pub bench : TightBench
+  pub text : TightText
   pub words : TightWords
   pub show : TightShow

@@ -17,7 +17,7 @@ use Rattle.reader.specs.Reading.{readerRefusals, read, readTx, messageOf, asTx}
 use Rattle.packet.specs.declared.message.Direction.{Direction}
 use Rattle.packet.specs.declared.message.Direction.the-variants as direction
 use Rattle.reader.proofs.Passed.{payload-most, payload-length}
-use Rattle.words.specs.Text.{text}
+use Rattle.base.specs.Text.{text}
 use Rattle.show.specs.Lines.{answerLine, decodedLine}
 
 -- Two lists of refusals that agree up to the first case that holds; the values behind them do not matter.

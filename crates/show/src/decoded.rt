@@ -1,5 +1,5 @@
 // What the decoding programs print for a packet.
-ghost use Rattle.words.specs.Text.{Written};
+ghost use Rattle.text.specs.Text.{Written};
 ghost use Rattle.reader.specs.Reading.{txAnswer};
 ghost use Rattle.show.specs.Lines.{answerLine, decodedLine};
 use crate::line::refused_line;
@@ -8,7 +8,7 @@ use packet::number;
 use reader::TxRead;
 use reader::payload;
 use reader::read_tx;
-use words::put_byte;
+use text::put_byte;
 
 pub fn answer_line(out: &mut [u8], read: TxRead, audio: usize) -> usize
     ensures { λ r. ⌜ Written (now (out .entry)) (now (out .exit)) 0 r (answerLine (txAnswer read) audio) ⌝ }

@@ -1,13 +1,13 @@
-// The pieces of a line. Each writes at a place and returns the next one.
+// The pieces of a line. Each returns the place after what it writes.
 ghost use mathlib.Core.List.{_++_};
-ghost use Rattle.words.specs.Text.{Written, decimal, bit};
-ghost use Rattle.show.specs.Lines.{stamp, kind, quality, delay, side};
+ghost use Rattle.text.specs.Text.{Written, decimal, bitText};
+ghost use Rattle.show.specs.Lines.{kindText, headText, sqiText, climaxText, sideText};
 use packet::ClimaxItem;
 use packet::SideItem;
 use packet::SqiItem;
-use words::put;
-use words::put_bit;
-use words::put_number;
+use text::put;
+use text::put_bit;
+use text::put_number;
 
 pub fn named_number(out: &mut [u8], at: usize, name: &[u8], n: u64) -> usize
     ensures { λ r. ⌜ Written (now (out .entry)) (now (out .exit)) at r (now (name .entry) ++ decimal n) ⌝ }
@@ -17,22 +17,14 @@ pub fn named_number(out: &mut [u8], at: usize, name: &[u8], n: u64) -> usize
 }
 
 pub fn named_bit(out: &mut [u8], at: usize, name: &[u8], b: bool) -> usize
-    ensures { λ r. ⌜ Written (now (out .entry)) (now (out .exit)) at r (now (name .entry) ++ bit b) ⌝ }
+    ensures { λ r. ⌜ Written (now (out .entry)) (now (out .exit)) at r (now (name .entry) ++ bitText b) ⌝ }
 {
     let next = put(out, at, name);
     put_bit(out, next, b)
 }
 
-pub fn put_stamp(out: &mut [u8], at: usize, sequence: u16, timestamp: u32, ssrc: u32) -> usize
-    ensures { λ r. ⌜ Written (now (out .entry)) (now (out .exit)) at r (stamp sequence timestamp ssrc) ⌝ }
-{
-    let after = named_number(out, at, b" seq=", sequence as u64);
-    let next = named_number(out, after, b" ts=", timestamp as u64);
-    named_number(out, next, b" ssrc=", ssrc as u64)
-}
-
 pub fn put_kind(out: &mut [u8], at: usize, audio: usize) -> usize
-    ensures { λ r. ⌜ Written (now (out .entry)) (now (out .exit)) at r (kind audio) ⌝ }
+    ensures { λ r. ⌜ Written (now (out .entry)) (now (out .exit)) at r (kindText audio) ⌝ }
 {
     if audio == 0 {
         put(out, at, b" kind=R2S")
@@ -41,8 +33,28 @@ pub fn put_kind(out: &mut [u8], at: usize, audio: usize) -> usize
     }
 }
 
-pub fn put_quality(out: &mut [u8], at: usize, item: SqiItem) -> usize
-    ensures { λ r. ⌜ Written (now (out .entry)) (now (out .exit)) at r (quality item) ⌝ }
+// What the lines of both directions begin with.
+pub fn put_head(
+    out: &mut [u8],
+    name: &[u8],
+    sequence: u16,
+    timestamp: u32,
+    ssrc: u32,
+    audio: usize,
+    ptt: u8,
+) -> usize
+    ensures { λ r. ⌜ Written (now (out .entry)) (now (out .exit)) 0 r (headText (now (name .entry)) sequence timestamp ssrc audio ptt) ⌝ }
+{
+    let at = put(out, 0, name);
+    let at = named_number(out, at, b" seq=", sequence as u64);
+    let at = named_number(out, at, b" ts=", timestamp as u64);
+    let at = named_number(out, at, b" ssrc=", ssrc as u64);
+    let at = put_kind(out, at, audio);
+    named_number(out, at, b" ptt=", ptt as u64)
+}
+
+pub fn put_sqi(out: &mut [u8], at: usize, item: SqiItem) -> usize
+    ensures { λ r. ⌜ Written (now (out .entry)) (now (out .exit)) at r (sqiText item) ⌝ }
 {
     match item {
         SqiItem::Absent => put(out, at, b" sqi=-"),
@@ -53,8 +65,8 @@ pub fn put_quality(out: &mut [u8], at: usize, item: SqiItem) -> usize
     }
 }
 
-pub fn put_delay(out: &mut [u8], at: usize, item: ClimaxItem) -> usize
-    ensures { λ r. ⌜ Written (now (out .entry)) (now (out .exit)) at r (delay item) ⌝ }
+pub fn put_climax(out: &mut [u8], at: usize, item: ClimaxItem) -> usize
+    ensures { λ r. ⌜ Written (now (out .entry)) (now (out .exit)) at r (climaxText item) ⌝ }
 {
     match item {
         ClimaxItem::Absent => put(out, at, b" cld=-"),
@@ -63,7 +75,7 @@ pub fn put_delay(out: &mut [u8], at: usize, item: ClimaxItem) -> usize
 }
 
 pub fn put_side(out: &mut [u8], at: usize, item: SideItem) -> usize
-    ensures { λ r. ⌜ Written (now (out .entry)) (now (out .exit)) at r (side item) ⌝ }
+    ensures { λ r. ⌜ Written (now (out .entry)) (now (out .exit)) at r (sideText item) ⌝ }
 {
     match item {
         SideItem::Absent => put(out, at, b" mss=-"),

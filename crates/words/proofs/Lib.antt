@@ -1,6 +1,3 @@
-pub mod Writing
-pub mod Digits
-pub mod Hex
 pub mod Lines
 pub mod Choices
 pub mod Values

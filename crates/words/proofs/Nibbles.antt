@@ -1,19 +1,20 @@
 -- Pairs of digits, and the bytes that they make.
 use Prim.Native.Nat.{ℕ, zero, suc, _+_, _*_, _/_, _%_, _≤_, _<_}
-use mathlib.Core.Path.{_≡_, refl, sym, _∙_}
+use mathlib.Core.Path.{_≡_, refl, ap, sym, _∙_}
 use mathlib.Core.Bool.{Bool, true, false, not, _&&_}
 use mathlib.Core.List.{List, [], _∷_}
+use native.Mathlib.Numerals.{add-one}
 use native.Mathlib.Omega.{arith}
 use borrow.Author.Tests.{le-leb, lt-leb}
 use lib.Dec.{eqb}
-use lib.ListN.{length, getD, take}
+use lib.ListN.{length, set, getD, take}
+use lib.Seq.{sets, length-sets, length-take-le, take-suc, take-all}
 use Rattle.base.proofs.Truths.{and-right}
-use Rattle.words.specs.Text.{Written}
+use Rattle.base.proofs.Buffers.{sets-append}
 use Rattle.words.specs.Numbers.{digitOf, allDigits}
 use Rattle.words.specs.Input.{same}
 use Rattle.words.specs.Pairs.{isDash, isHex, pairs, saysBytes, bytesOf, bytesSaid, bytesLaid}
 use Rattle.words.specs.declared.pairs.BytesRead.the-variants as bytes
-use Rattle.words.proofs.Writing.{then-next, whole}
 use Rattle.words.proofs.Values.{digit-at}
 
 pub pairs-length : (w : List ℕ) → length (pairs w) ≡ length w / 2
@@ -32,16 +33,28 @@ pair-at (a ∷ b ∷ w) (suc i) h =
     let odd : 2 * suc i + 1 ≡ suc (suc (2 * i + 1)) = omega arith in
     rw (odd, even) (pair-at w i (omega arith))
 
--- Byte by byte: the bytes of the pairs before place i are written.
-module _ {l m n : List ℕ} {mid to : ℕ} (w : List ℕ) (i : ℕ) where
-  pub pair-next : i < length w / 2 → {d e : ℕ} → d ≡ digitOf (getD w (2 * i) 0) → e ≡ digitOf (getD w (2 * i + 1) 0)
-      → Written l m 0 mid (take i (pairs w)) → Written m n mid to ((d * 16 + e) ∷ []) → Written l n 0 to (take (i + 1) (pairs w))
-  pair-next h {d} {e} p q r s =
-      let is : d * 16 + e ≡ getD (pairs w) i 0 = rw (p, q) (sym (pair-at w i h)) in
-      then-next (pairs w) i (omega (arith, pairs-length w)) r (rw is at s)
+-- Byte by byte: the bytes of the pairs before place i are stored.
+module _ (w l : List ℕ) (i : ℕ) {m : List ℕ} (s : m ≡ sets l 0 (take i (pairs w))) where
+  pub same-size : length m ≡ length l
+  same-size = ap length s ∙ length-sets l 0 (take i (pairs w))
 
-pub pairs-written : {l m : List ℕ} {to : ℕ} (w : List ℕ) (i : ℕ) → length w / 2 ≤ i → Written l m 0 to (take i (pairs w)) → Written l m 0 to (pairs w)
-pairs-written w i h r = whole (pairs w) i (omega (arith, pairs-length w)) r
+  pub room-left : i < length w / 2 → length w / 2 ≤ length l → i < length m
+  room-left h k = omega (arith, same-size)
+
+  pub pair-next : i < length w / 2 → {d e : ℕ} → d ≡ digitOf (getD w (2 * i) 0) → e ≡ digitOf (getD w (2 * i + 1) 0)
+      → set m i (d * 16 + e) ≡ sets l 0 (take (i + 1) (pairs w))
+  pair-next h {d} {e} p q =
+      let is : d * 16 + e ≡ getD (pairs w) i 0 = rw (p, q) (sym (pair-at w i h)) in
+      let within : i < length (pairs w) = omega (arith, pairs-length w) in
+      let long : i ≡ 0 + length (take i (pairs w)) = omega (arith, length-take-le i (pairs w) (omega arith)) in
+      ap (λ (k : List ℕ). set k i (d * 16 + e)) s
+      ∙ ap (λ (b : ℕ). set (sets l 0 (take i (pairs w))) i b) is
+      ∙ ap (λ (k : ℕ). set (sets l 0 (take i (pairs w))) k (getD (pairs w) i 0)) long
+      ∙ sym (sets-append l (take i (pairs w)) (getD (pairs w) i 0 ∷ []) 0)
+      ∙ rw (add-one, take-suc (pairs w) i 0 within)
+
+  pub pairs-stored : length w / 2 ≤ i → m ≡ sets l 0 (pairs w)
+  pairs-stored h = s ∙ ap (sets l 0) (take-all i (pairs w) (omega (arith, pairs-length w)))
 
 pub digit-small : (w : List ℕ) (k : ℕ) → isHex w ≡ true → k < length w → {d : ℕ} → d ≡ digitOf (getD w k 0) → d < 16
 unfolding isHex
@@ -84,10 +97,10 @@ module _ (w out : List ℕ) where
       no-bytes g =
           (simp (sym e ∙ h, le-leb (length w / 2) (length out) l, sym f ∙ g), simp (sym e ∙ h, le-leb (length w / 2) (length out) l, sym f ∙ g))
 
-      pub some-bytes : s ≡ true → {m : List ℕ} {to : ℕ} → Written out m 0 to (pairs w)
+      pub some-bytes : s ≡ true → {m : List ℕ} → m ≡ sets out 0 (pairs w)
           → (bytes.Are (length w / 2) ≡ bytesSaid w (length out)) × (m ≡ bytesLaid w out)
       unfolding bytesSaid bytesLaid saysBytes bytesOf
       some-bytes g r = (
         simp (sym e ∙ h, le-leb (length w / 2) (length out) l, sym f ∙ g, pairs-length w),
-        r .buffer ∙ simp (sym e ∙ h, le-leb (length w / 2) (length out) l, sym f ∙ g),
+        r ∙ simp (sym e ∙ h, le-leb (length w / 2) (length out) l, sym f ∙ g),
       )

@@ -6,7 +6,7 @@ use mathlib.Core.List.{List, [], _∷_}
 use lib.Dec.{eqb}
 use lib.ListN.{length, drop}
 use Rattle.base.specs.Bytes.{partOf}
-use Rattle.words.specs.Text.{text}
+use Rattle.base.specs.Text.{text}
 
 -- 32 is the byte of a space, 9 of a tab, 13 of a carriage return, 35 of "#".
 abbrev pub isBlank : ℕ → Bool

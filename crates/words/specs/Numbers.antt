@@ -7,7 +7,7 @@ use lib.Dec.{ltb, leb, eqb}
 use lib.IntN.{pos, negsuc, negℤ}
 use lib.ListN.{drop}
 use Rattle.base.specs.Bytes.{byteAt}
-use Rattle.words.specs.Text.{text}
+use Rattle.base.specs.Text.{text}
 use Rattle.words.specs.declared.numbers.NumberRead.{NumberRead}
 use Rattle.words.specs.declared.numbers.NumberRead.the-variants as number
 use Rattle.words.specs.declared.numbers.HalfRead.{HalfRead}

@@ -6,7 +6,7 @@ use mathlib.Core.List.{List, [], _∷_}
 use lib.Dec.{leb, eqb}
 use lib.ListN.{length}
 use lib.Seq.{sets}
-use Rattle.words.specs.Text.{text}
+use Rattle.base.specs.Text.{text}
 use Rattle.words.specs.Input.{same}
 use Rattle.words.specs.Numbers.{digitOf, allDigits}
 use Rattle.words.specs.declared.pairs.BytesRead.{BytesRead}

@@ -1,10 +1,7 @@
-// Text for programs, in lent buffers; no packet is known here. Text out: start at specs/Text.antt, which says what it is
-// to write text; then out.rt. proofs/Writing.antt has `_then_`, by which whoever writes several texts shows what stands
-// there. Text in: specs/Input.antt and input.rt for the words of a line, specs/Numbers.antt and numbers.rt for the numbers
-// that they say, specs/Pairs.antt and pairs.rt for their bytes.
+// Text in: what a line says; no packet is known here. specs/Input.antt and input.rt for the words of a line,
+// specs/Numbers.antt and numbers.rt for the numbers that they say, specs/Pairs.antt and pairs.rt for their bytes.
 pub mod input;
 pub mod numbers;
-pub mod out;
 pub mod pairs;
 
 pub use input::choice;
@@ -20,11 +17,6 @@ pub use numbers::half;
 pub use numbers::hex_half;
 pub use numbers::level;
 pub use numbers::number;
-pub use out::put;
-pub use out::put_bit;
-pub use out::put_byte;
-pub use out::put_hex;
-pub use out::put_number;
 pub use pairs::BytesRead;
 pub use pairs::bytes;
 pub use pairs::dash;

@@ -1,12 +1,12 @@
 // Bytes in hexadecimal, read into a lent buffer.
 ghost use mathlib.Core.Path.{_≡_};
 ghost use mathlib.Core.Bool.{true};
+ghost use Prim.Native.Nat.{_/_, _≤_};
 ghost use lib.ListN.{length};
-ghost use Rattle.words.specs.Text.{Written};
+ghost use lib.Seq.{sets};
 ghost use Rattle.words.specs.Numbers.{allDigits};
 ghost use Rattle.words.specs.Pairs.{isDash, isHex, pairs, bytesSaid, bytesLaid};
 use crate::numbers::digit;
-use crate::out::put_byte;
 
 pub enum BytesRead {
     Are(usize),
@@ -49,19 +49,17 @@ fn hex(w: &[u8]) -> bool
     all_digits(w)
 }
 
-// The bytes of pairs of digits, at the front of the buffer, and the place behind them.
-fn put_pairs(w: &[u8], out: &mut [u8]) -> usize
-    requires { ⌜ isHex (now w) ≡ true ⌝ }
-    ensures { λ r. ⌜ Written (now (out .entry)) (now (out .exit)) 0 r (pairs (now (w .entry))) ⌝ }
+// The bytes of pairs of digits, at the front of a buffer that has room for them.
+fn put_pairs(w: &[u8], out: &mut [u8])
+    requires { ⌜ (isHex (now w) ≡ true) × (length (now w) / 2 ≤ length (now out)) ⌝ }
+    ensures { λ _. ⌜ now (out .exit) ≡ sets (now (out .entry)) 0 (pairs (now (w .entry))) ⌝ }
 {
     let n = w.len() / 2;
-    let mut at = 0;
     let mut i = 0;
     while i < n {
-        at = put_byte(out, at, digit(w[2 * i]) * 16 + digit(w[2 * i + 1]));
+        out[i] = digit(w[2 * i]) * 16 + digit(w[2 * i + 1]);
         i += 1;
     }
-    at
 }
 
 // Digits in pairs, or `-` for no bytes: how many bytes they are, and the bytes at the front of the buffer. Where the word

@@ -6,14 +6,14 @@ use denote.Ref.{RefT}
 use Rattle.packet.proofs.TellApart.{verdict-tells}
 use Rattle.reader.proofs.TellApart.{tx-tells, rx-tells}
 use Rattle.writer.proofs.TellApart.{written-tells}
-use Rattle.words.specs.Text.{Written}
-use Rattle.words.proofs.Writing.{written-once}
+use Rattle.text.specs.Text.{Written}
+use Rattle.text.proofs.Writing.{written-once}
 use Rattle.seats.specs.declared.opening.Opened.{Opened}
 use Rattle.seats.specs.declared.answer.Done.{Done}
 use Rattle.seats.specs.declared.ticking.Ticked.{Ticked}
 use Rattle.bench.specs.declared.hearing.Packeted.{Packeted}
 use Rattle.bench.specs.declared.reporting.Reported.{Reported}
-use Rattle.demands.specs.Tight.{TightBase, TightPacket, TightReader, TightWriter, TightRecord, TightSeats, TightAir, TightBench, TightWords, TightShow, Tight}
+use Rattle.demands.specs.Tight.{TightBase, TightPacket, TightReader, TightWriter, TightRecord, TightSeats, TightAir, TightBench, TightText, TightWords, TightShow, Tight}
 use Rattle.seats.proofs.TellApart.{open-tells, done-tells}
 use Rattle.bench.proofs.TellApart.{packet-tells}
 
@@ -130,13 +130,18 @@ tight-bench = record {
   report = λ k a r s d e p q. (reported-once (told written-tells (p .0) (q .0)) (meet (p .1 .1) (q .1 .1)), meet (p .1 .0) (q .1 .0));
 }
 
-pub tight-words : TightWords
-tight-words = record {
+pub tight-text : TightText
+tight-text = record {
   put-byte = λ k a r s d e. written;
   put = λ k a r s d e. written;
   put-bit = λ k a r s d e. written;
   put-number = λ k a r s d e. written;
   put-hex = λ k a r s d e. written;
+  put-bytes = λ k a r s d e. written;
+}
+
+pub tight-words : TightWords
+tight-words = record {
   word = λ k a r s d e p q. (meet (p .0) (q .0), same-place r s (p .1) (q .1));
   last = λ k a r s d e p q. (meet (p .0) (q .0), same-place r s (p .1) (q .1));
   choice = λ k a r s d e. meet;
@@ -156,6 +161,7 @@ tight-show = record {
   tx-line = λ k a r s d e. written;
   rx-line = λ k a r s d e. written;
   refused-line = λ k a r s d e. written;
+  refusal-line = λ k a r s d e. written;
   answer-line = λ k a r s d e. written;
   decode = λ k a r s d e. written;
 }
@@ -170,6 +176,7 @@ tight = record {
   seats = tight-seats;
   air = tight-air;
   bench = tight-bench;
+  text = tight-text;
   words = tight-words;
   show = tight-show;
 }

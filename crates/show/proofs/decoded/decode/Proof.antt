@@ -1,5 +1,5 @@
 use borrow.Author.Needs.{needs}
-use Rattle.words.proofs.Writing.{_then_}
+use Rattle.text.proofs.Writing.{_then_}
 use Rattle.show.specs.Lines.{decodedLine}
 use Rattle.show.proofs.decoded.decode.Statement.{statement}
 use Rattle.show.proofs.decoded.decode.Tie as tie

@@ -1,20 +1,20 @@
 use borrow.Author.Needs.{needs}
-use Rattle.words.proofs.Writing.{_then_, kept}
+use Rattle.text.proofs.Writing.{_then_, kept}
 use Rattle.show.specs.Lines.{rxLine}
 use Rattle.show.proofs.line.rx_line.Statement.{statement}
 use Rattle.show.proofs.line.rx_line.Tie as tie
 
-slice-aggregate-put : tie.Need-slice-aggregate-put
-slice-aggregate-put c = search needs
+slice-aggregate-put-head : tie.Need-slice-aggregate-put-head
+slice-aggregate-put-head c = search needs
 
-put-requires : tie.Need-put-requires
-put-requires c κs = search needs
+put-head-requires : tie.Need-put-head-requires
+put-head-requires c κs = search needs
 
-put-stamp-requires : tie.Need-put-stamp-requires
-put-stamp-requires c κs = search needs
+slice-aggregate-named-bit : tie.Need-slice-aggregate-named-bit
+slice-aggregate-named-bit c = search needs
 
-put-kind-requires : tie.Need-put-kind-requires
-put-kind-requires c κs = search needs
+named-bit-requires : tie.Need-named-bit-requires
+named-bit-requires c κs = search needs
 
 slice-aggregate-named-number : tie.Need-slice-aggregate-named-number
 slice-aggregate-named-number c = search needs
@@ -24,21 +24,6 @@ cast-named-number c = search needs
 
 named-number-requires : tie.Need-named-number-requires
 named-number-requires c κs = search needs
-
-slice-aggregate-named-bit : tie.Need-slice-aggregate-named-bit
-slice-aggregate-named-bit c = search needs
-
-named-bit-requires : tie.Need-named-bit-requires
-named-bit-requires c κs = search needs
-
-slice-aggregate-named-number-2 : tie.Need-slice-aggregate-named-number-2
-slice-aggregate-named-number-2 c = search needs
-
-cast-named-number-2 : tie.Need-cast-named-number-2
-cast-named-number-2 c = search needs
-
-named-number-requires-2 : tie.Need-named-number-requires-2
-named-number-requires-2 c κs = search needs
 
 slice-aggregate-named-bit-2 : tie.Need-slice-aggregate-named-bit-2
 slice-aggregate-named-bit-2 c = search needs
@@ -58,45 +43,39 @@ slice-aggregate-named-bit-4 c = search needs
 named-bit-requires-4 : tie.Need-named-bit-requires-4
 named-bit-requires-4 c κs = search needs
 
-put-quality-requires : tie.Need-put-quality-requires
-put-quality-requires c κs = search needs
+put-sqi-requires : tie.Need-put-sqi-requires
+put-sqi-requires c κs = search needs
 
 put-side-requires : tie.Need-put-side-requires
 put-side-requires c κs = search needs
 
-slice-aggregate-named-number-3 : tie.Need-slice-aggregate-named-number-3
-slice-aggregate-named-number-3 c = search needs
+slice-aggregate-named-number-2 : tie.Need-slice-aggregate-named-number-2
+slice-aggregate-named-number-2 c = search needs
 
-named-number-requires-3 : tie.Need-named-number-requires-3
-named-number-requires-3 c κs = search needs
+named-number-requires-2 : tie.Need-named-number-requires-2
+named-number-requires-2 c κs = search needs
 
 returns : tie.Need-returns
 unfolding rxLine
 returns c =
     let audio = c .before .before in
     let side = audio .before .before .before .before .before in
-    let quality = side .before .before .before .before in
-    let sct = quality .before .before .before .before in
+    let sqi = side .before .before .before .before in
+    let sct = sqi .before .before .before .before in
     let ptts = sct .before .before .before .before .before in
     let pm = ptts .before .before .before .before .before in
     let id = pm .before .before .before .before .before in
     let squ = id .before .before .before .before .before .before in
-    let ptt = squ .before .before .before .before .before in
-    let kind = ptt .before .before .before .before .before .before in
-    let stamp = kind .before .before .before .before in
-    let head = stamp .before .before .before .before in
-    head .put .ensures
-    then stamp .put-stamp .ensures
-    then kind .put-kind .ensures
-    then ptt .named-number .ensures
+    let head = squ .before .before .before .before .before in
+    head .put-head .ensures
     then squ .named-bit .ensures
-    then id .named-number2 .ensures
+    then id .named-number .ensures
     then pm .named-bit2 .ensures
     then ptts .named-bit3 .ensures
     then sct .named-bit4 .ensures
-    then quality .put-quality .ensures
+    then sqi .put-sqi .ensures
     then side .put-side .ensures
-    then audio .named-number3 .ensures
+    then audio .named-number2 .ensures
 
 same-length : tie.Need-same-length
 same-length c = kept (returns c)
@@ -105,27 +84,22 @@ pub rx-line-spec : {M : Type 1} → statement M
 rx-line-spec =
     tie.close
     (tie.spec
-    slice-aggregate-put
-    put-requires
-    put-stamp-requires
-    put-kind-requires
+    slice-aggregate-put-head
+    put-head-requires
+    slice-aggregate-named-bit
+    named-bit-requires
     slice-aggregate-named-number
     cast-named-number
     named-number-requires
-    slice-aggregate-named-bit
-    named-bit-requires
-    slice-aggregate-named-number-2
-    cast-named-number-2
-    named-number-requires-2
     slice-aggregate-named-bit-2
     named-bit-requires-2
     slice-aggregate-named-bit-3
     named-bit-requires-3
     slice-aggregate-named-bit-4
     named-bit-requires-4
-    put-quality-requires
+    put-sqi-requires
     put-side-requires
-    slice-aggregate-named-number-3
-    named-number-requires-3
+    slice-aggregate-named-number-2
+    named-number-requires-2
     same-length
     returns)

@@ -1,20 +1,14 @@
 use borrow.Author.Needs.{needs}
-use Rattle.words.proofs.Writing.{_then_, kept}
+use Rattle.text.proofs.Writing.{_then_, kept}
 use Rattle.show.specs.Lines.{txLine}
 use Rattle.show.proofs.line.tx_line.Statement.{statement}
 use Rattle.show.proofs.line.tx_line.Tie as tie
 
-slice-aggregate-put : tie.Need-slice-aggregate-put
-slice-aggregate-put c = search needs
+slice-aggregate-put-head : tie.Need-slice-aggregate-put-head
+slice-aggregate-put-head c = search needs
 
-put-requires : tie.Need-put-requires
-put-requires c κs = search needs
-
-put-stamp-requires : tie.Need-put-stamp-requires
-put-stamp-requires c κs = search needs
-
-put-kind-requires : tie.Need-put-kind-requires
-put-kind-requires c κs = search needs
+put-head-requires : tie.Need-put-head-requires
+put-head-requires c κs = search needs
 
 slice-aggregate-named-number : tie.Need-slice-aggregate-named-number
 slice-aggregate-named-number c = search needs
@@ -24,15 +18,6 @@ cast-named-number c = search needs
 
 named-number-requires : tie.Need-named-number-requires
 named-number-requires c κs = search needs
-
-slice-aggregate-named-number-2 : tie.Need-slice-aggregate-named-number-2
-slice-aggregate-named-number-2 c = search needs
-
-cast-named-number-2 : tie.Need-cast-named-number-2
-cast-named-number-2 c = search needs
-
-named-number-requires-2 : tie.Need-named-number-requires-2
-named-number-requires-2 c κs = search needs
 
 slice-aggregate-named-bit : tie.Need-slice-aggregate-named-bit
 slice-aggregate-named-bit c = search needs
@@ -46,41 +31,35 @@ slice-aggregate-named-bit-2 c = search needs
 named-bit-requires-2 : tie.Need-named-bit-requires-2
 named-bit-requires-2 c κs = search needs
 
-put-delay-requires : tie.Need-put-delay-requires
-put-delay-requires c κs = search needs
+put-climax-requires : tie.Need-put-climax-requires
+put-climax-requires c κs = search needs
 
 put-side-requires : tie.Need-put-side-requires
 put-side-requires c κs = search needs
 
-slice-aggregate-named-number-3 : tie.Need-slice-aggregate-named-number-3
-slice-aggregate-named-number-3 c = search needs
+slice-aggregate-named-number-2 : tie.Need-slice-aggregate-named-number-2
+slice-aggregate-named-number-2 c = search needs
 
-named-number-requires-3 : tie.Need-named-number-requires-3
-named-number-requires-3 c κs = search needs
+named-number-requires-2 : tie.Need-named-number-requires-2
+named-number-requires-2 c κs = search needs
 
 returns : tie.Need-returns
 unfolding txLine
 returns c =
     let audio = c .before .before in
     let side = audio .before .before .before .before .before in
-    let delay = side .before .before .before .before in
-    let ptts = delay .before .before .before .before in
+    let climax = side .before .before .before .before in
+    let ptts = climax .before .before .before .before in
     let pm = ptts .before .before .before .before .before in
     let id = pm .before .before .before .before .before in
-    let ptt = id .before .before .before .before .before .before in
-    let kind = ptt .before .before .before .before .before .before in
-    let stamp = kind .before .before .before .before in
-    let head = stamp .before .before .before .before in
-    head .put .ensures
-    then stamp .put-stamp .ensures
-    then kind .put-kind .ensures
-    then ptt .named-number .ensures
-    then id .named-number2 .ensures
+    let head = id .before .before .before .before .before .before in
+    head .put-head .ensures
+    then id .named-number .ensures
     then pm .named-bit .ensures
     then ptts .named-bit2 .ensures
-    then delay .put-delay .ensures
+    then climax .put-climax .ensures
     then side .put-side .ensures
-    then audio .named-number3 .ensures
+    then audio .named-number2 .ensures
 
 same-length : tie.Need-same-length
 same-length c = kept (returns c)
@@ -89,23 +68,18 @@ pub tx-line-spec : {M : Type 1} → statement M
 tx-line-spec =
     tie.close
     (tie.spec
-    slice-aggregate-put
-    put-requires
-    put-stamp-requires
-    put-kind-requires
+    slice-aggregate-put-head
+    put-head-requires
     slice-aggregate-named-number
     cast-named-number
     named-number-requires
-    slice-aggregate-named-number-2
-    cast-named-number-2
-    named-number-requires-2
     slice-aggregate-named-bit
     named-bit-requires
     slice-aggregate-named-bit-2
     named-bit-requires-2
-    put-delay-requires
+    put-climax-requires
     put-side-requires
-    slice-aggregate-named-number-3
-    named-number-requires-3
+    slice-aggregate-named-number-2
+    named-number-requires-2
     same-length
     returns)

@@ -17,7 +17,7 @@ hex-requires : tie.Need-hex-requires
 hex-requires c κs = search needs
 
 put-pairs-requires : tie.Need-put-pairs-requires
-put-pairs-requires c κs = sym (c .before .before .hex .ensures) ∙ c .before .if3 .taken
+put-pairs-requires c κs = (sym (c .before .before .hex .ensures) ∙ c .before .if3 .taken, search needs)
 
 same-length : tie.Need-same-length
 same-length c = search needs
