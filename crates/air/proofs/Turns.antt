@@ -1,5 +1,5 @@
 -- The loops over the order and over marks: what is left to do at each turn, and at the end.
-use Prim.Native.Nat.{ℕ, suc, _+_, _<_, _≤_, max}
+use Prim.Native.Nat.{ℕ, _+_, _<_, _≤_, max}
 use mathlib.Core.Path.{_≡_, sym, _∙_}
 use mathlib.Core.Bool.{Bool, true, false, cond}
 use mathlib.Core.List.{List, _∷_}
@@ -7,9 +7,10 @@ use native.Mathlib.Omega.{arith}
 use borrow.Author.Tests.{eq-eqb, ne-eqb}
 use lib.Dec.{eqb}
 use lib.ListN.{length, getD, drop}
+use Rattle.base.proofs.Lists.{many-more, many-done}
 use Rattle.base.proofs.Loops.{left-more, left-done, fill-more, fill-done}
 use Rattle.record.specs.Record.{closedSeat}
-use Rattle.air.specs.Marks.{highest, seatsAt, firstAt, markAll, markIf, smallestFrom, marked, sends, sendsFrom}
+use Rattle.air.specs.Marks.{highest, seatsAt, firstAt, markAll, markIf, smallestFrom, sends, sendsFrom}
 use Rattle.record.specs.declared.seat.Seat.{Seat}
 
 module _ (ranks : List ℕ) (i top : ℕ) (eight : length ranks ≡ 8) where
@@ -68,20 +69,6 @@ module _ (marks : List Bool) (i n : ℕ) (eight : length marks ≡ 8) where
   unfolding smallestFrom
   smallest-none h k = simp (left-done marks i eight h) at k
 
-  pub marked-more : (one : ℕ) → i < 8 → one ≡ cond (getD marks i false) 1 0 → n + marked (drop i marks) ≡ marked marks
-      → n + one + marked (drop (i + 1) marks) ≡ marked marks
-  unfolding marked
-  marked-more one h e k = by-mark (getD marks i false) e (rw (left-more marks i eight false h) at k)
-    where
-      by-mark : (m : Bool) → one ≡ cond m 1 0 → n + cond m (suc (marked (drop (i + 1) marks))) (marked (drop (i + 1) marks)) ≡ marked marks
-          → n + one + marked (drop (i + 1) marks) ≡ marked marks
-      by-mark true e k = omega arith
-      by-mark false e k = omega arith
-
-  pub marked-done : 8 ≤ i → n + marked (drop i marks) ≡ marked marks → n ≡ marked marks
-  unfolding marked
-  marked-done h k = omega (arith, rw (left-done marks i eight h) at k)
-
 module _ (seats : List Seat) (on : List Bool) (i : ℕ) (eight : length on ≡ 8) where
   pub sends-found : (r : Bool) → i < 8 → r ≡ sends (getD on i false) (getD seats i closedSeat) → r ≡ true
       → sendsFrom i seats (drop i on) ≡ sendsFrom 0 seats on → true ≡ sendsFrom 0 seats on
@@ -97,4 +84,4 @@ module _ (seats : List Seat) (on : List Bool) (i : ℕ) (eight : length on ≡ 8
   unfolding sendsFrom
   sends-none h k = simp (left-done on i eight h) at k
 
-pub ruleset turns = (fill-more, fill-done, highest-more, highest-done, first-found, first-more, first-none, mark-more, mark-done, smallest-found, smallest-more, smallest-none, marked-more, marked-done, sends-found, sends-more, sends-none)
+pub ruleset turns = (fill-more, fill-done, highest-more, highest-done, first-found, first-more, first-none, mark-more, mark-done, smallest-found, smallest-more, smallest-none, many-more, many-done, sends-found, sends-more, sends-none)

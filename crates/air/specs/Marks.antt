@@ -1,17 +1,22 @@
--- Who is on the air as the code finds it: the rank at each place of the order, and a set of seats as eight marks.
--- proofs/AirFound.antt shows that it is what Air says.
-use Prim.Native.Nat.{ℕ, suc, _+_, _-_, max}
+-- For proofs alone, what the private functions find: the rank of each seat, then at each place of the order, and a set of
+-- seats as eight marks. proofs/AirFound.antt shows that it is what Air says.
+use Prim.Native.Nat.{ℕ, _+_, _-_, max}
 use mathlib.Core.Bool.{Bool, true, false, cond, _&&_, _||_}
 use mathlib.Core.List.{List, [], _∷_, map, foldl}
 use lib.Dec.{eqb, ltb, leb}
 use lib.ListN.{getD, set}
-use Rattle.record.specs.Record.{seatNumbers, noSuchSeat, closedSeat, seatOf}
+use Rattle.base.specs.Lists.{howMany}
+use Rattle.record.specs.Record.{seatNumbers, noSuchSeat, closedSeat}
 use Rattle.air.specs.Air.{rank, couplingRank, takesPart, theFirst, among}
 use Rattle.record.specs.declared.seat.Seat.{Seat}
 
--- The rank at which the seat of a number takes part, 0 if it takes none.
-unfoldable pub standing : (healthy : Bool) → List Seat → (n : ℕ) → ℕ
-standing healthy seats n = cond (takesPart healthy (seatOf seats n)) (rank (seatOf seats n .heard .field .ptt)) 0
+-- The rank at which a seat takes part, 0 if it takes none.
+unfoldable pub standing : (healthy : Bool) → Seat → ℕ
+standing healthy s = cond (takesPart healthy s) (rank (s .heard .field .ptt)) 0
+
+-- The rank of the seat of a number; what is no seat's number has none.
+unfoldable pub rankOf : (standings : List ℕ) → (n : ℕ) → ℕ
+rankOf standings n = cond (noSuchSeat n) 0 (getD standings (n - 1) 0)
 
 unfoldable pub highest : (ranks : List ℕ) → ℕ
 highest [] = 0
@@ -41,21 +46,17 @@ markAll marks ns = foldl mark marks ns
 abbrev pub markIf : Bool → List Bool → ℕ → List Bool
 markIf t marks n = cond t (mark marks n) marks
 
-unfoldable pub leadersAt : (summation : Bool) → (top : ℕ) → (order ranks : List ℕ) → List ℕ
-leadersAt summation top order ranks =
-    cond (eqb top 0) [] (cond summation (seatsAt top order ranks) (theFirst (seatsAt top order ranks)))
+unfoldable pub leadersAt : (equalSummation : Bool) → (top : ℕ) → (order ranks : List ℕ) → List ℕ
+leadersAt equalSummation top order ranks =
+    cond (eqb top 0) [] (cond equalSummation (seatsAt top order ranks) (theFirst (seatsAt top order ranks)))
 
-unfoldable pub addedAt : (coupling : Bool) → (top : ℕ) → (order ranks : List ℕ) → List ℕ
-addedAt coupling top order ranks = cond (coupling && ltb couplingRank top) (seatsAt couplingRank order ranks) []
+unfoldable pub addedAt : (couplingSummation : Bool) → (top : ℕ) → (order ranks : List ℕ) → List ℕ
+addedAt couplingSummation top order ranks = cond (couplingSummation && ltb couplingRank top) (seatsAt couplingRank order ranks) []
 
 -- The smallest number that is marked, the first mark being n's.
 unfoldable pub smallestFrom : (n : ℕ) → List Bool → ℕ
 smallestFrom n [] = 0
 smallestFrom n (m ∷ marks) = cond m n (smallestFrom (n + 1) marks)
-
-unfoldable pub marked : List Bool → ℕ
-marked [] = 0
-marked (m ∷ marks) = cond m (suc (marked marks)) (marked marks)
 
 abbrev pub sends : Bool → Seat → Bool
 sends m s = m && s .heard .field .ptts
@@ -66,4 +67,4 @@ sendsFrom i seats [] = false
 sendsFrom i seats (m ∷ marks) = sends m (getD seats i closedSeat) || sendsFrom (i + 1) seats marks
 
 unfoldable pub pttsShown : List Seat → List Bool → Bool
-pttsShown seats on = leb 2 (marked on) || sendsFrom 0 seats on
+pttsShown seats on = leb 2 (howMany (λ m. m) on) || sendsFrom 0 seats on

@@ -3,7 +3,7 @@ ghost use mathlib.Core.Path.{_≡_};
 ghost use Prim.Native.Nat.{max};
 ghost use mathlib.Core.List.{map};
 ghost use Rattle.air.specs.Air.{rank, typeOf, keyed, takesPart, benchAir};
-ghost use Rattle.air.specs.Marks.{standing, highest, seatsAt, firstAt, markAll, marksOf, leadersAt, addedAt, sends, sendsFrom, pttsShown};
+ghost use Rattle.air.specs.Marks.{standing, rankOf, highest, seatsAt, firstAt, markAll, marksOf, leadersAt, addedAt, sends, sendsFrom, pttsShown};
 use crate::marks::mark;
 use crate::marks::mark_if;
 use crate::marks::marked;
@@ -12,7 +12,7 @@ use record::Air;
 use record::Bench;
 use record::Field;
 use record::Seat;
-use record::seat_of;
+use record::no_such_seat;
 
 const COUPLING_RANK: u8 = 2;
 
@@ -65,24 +65,45 @@ fn takes_part(healthy: bool, s: Seat) -> bool
     false
 }
 
-// The rank at which the seat of a number takes part, 0 if it takes none.
-fn standing(healthy: bool, seats: [Seat; 8], n: u8) -> u8
-    ensures { λ r. ⌜ r ≡ standing healthy seats n ⌝ }
+// The rank at which a seat takes part, 0 if it takes none.
+fn standing(healthy: bool, s: Seat) -> u8
+    ensures { λ r. ⌜ r ≡ standing healthy s ⌝ }
 {
-    let s = seat_of(seats, n);
     if takes_part(healthy, s) {
         return rank(s.heard.field.ptt);
     }
     0
 }
 
+// The rank at which each seat takes part, by its place.
+fn standings(healthy: bool, seats: [Seat; 8]) -> [u8; 8]
+    ensures { λ r. ⌜ r ≡ map (standing healthy) seats ⌝ }
+{
+    let mut standings = [0u8; 8];
+    for i in 0..8 {
+        let s = seats[i];
+        standings[i] = standing(healthy, s);
+    }
+    standings
+}
+
+// The rank of the seat of a number; what is no seat's number has none.
+fn rank_of(standings: [u8; 8], n: u8) -> u8
+    ensures { λ r. ⌜ r ≡ rankOf standings n ⌝ }
+{
+    if no_such_seat(n) {
+        return 0;
+    }
+    standings[(n - 1) as usize]
+}
+
 // The rank at each place of the order.
-fn ranks(healthy: bool, seats: [Seat; 8], order: [u8; 8]) -> [u8; 8]
-    ensures { λ r. ⌜ r ≡ map (standing healthy seats) order ⌝ }
+fn ranks(standings: [u8; 8], order: [u8; 8]) -> [u8; 8]
+    ensures { λ r. ⌜ r ≡ map (rankOf standings) order ⌝ }
 {
     let mut ranks = [0u8; 8];
     for i in 0..8 {
-        ranks[i] = standing(healthy, seats, order[i]);
+        ranks[i] = rank_of(standings, order[i]);
     }
     ranks
 }
@@ -128,14 +149,14 @@ fn mark_at(marks: [bool; 8], rank: u8, order: [u8; 8], ranks: [u8; 8]) -> [bool;
 }
 
 // Who is on the air at the top rank: by summation all of it, by lockout the first.
-fn leading(summation: bool, top: u8, order: [u8; 8], ranks: [u8; 8]) -> [bool; 8]
-    ensures { λ r. ⌜ r ≡ marksOf (leadersAt summation top order ranks) ⌝ }
+fn leading(equal_summation: bool, top: u8, order: [u8; 8], ranks: [u8; 8]) -> [bool; 8]
+    ensures { λ r. ⌜ r ≡ marksOf (leadersAt «equal_summation» top order ranks) ⌝ }
 {
     let nobody = [false; 8];
     if top == 0 {
         return nobody;
     }
-    if summation {
+    if equal_summation {
         return mark_at(nobody, top, order, ranks);
     }
     let first = first_at(top, order, ranks);
@@ -145,14 +166,14 @@ fn leading(summation: bool, top: u8, order: [u8; 8], ranks: [u8; 8]) -> [bool; 8
 // With coupling summation the participants keyed Coupling are added when the top rank is above Coupling.
 fn with_added(
     leads: [bool; 8],
-    coupling: bool,
+    coupling_summation: bool,
     top: u8,
     order: [u8; 8],
     ranks: [u8; 8],
 ) -> [bool; 8]
-    ensures { λ r. ⌜ r ≡ markAll leads (addedAt coupling top order ranks) ⌝ }
+    ensures { λ r. ⌜ r ≡ markAll leads (addedAt «coupling_summation» top order ranks) ⌝ }
 {
-    if coupling {
+    if coupling_summation {
         if COUPLING_RANK < top {
             return mark_at(leads, COUPLING_RANK, order, ranks);
         }
@@ -196,7 +217,8 @@ pub fn bench_air(b: Bench) -> Air
     let setup = b.setup;
     let seats = b.seats;
     let order = b.order;
-    let ranks = ranks(b.healthy, seats, order);
+    let standings = standings(b.healthy, seats);
+    let ranks = ranks(standings, order);
     let top = highest(ranks);
     let leads = leading(setup.equal_summation, top, order, ranks);
     let on = with_added(leads, setup.coupling_summation, top, order, ranks);

@@ -1,8 +1,8 @@
 // A set of seats as eight marks; seat n has place n - 1. specs/Marks.antt says what each function finds.
 ghost use mathlib.Core.Path.{_≡_};
-ghost use Prim.Native.Nat.{_≤_};
-ghost use mathlib.Core.Bool.{cond};
-ghost use Rattle.air.specs.Marks.{mark, markIf, smallestFrom, marked};
+ghost use Rattle.base.specs.Lists.{howMany};
+ghost use Rattle.air.specs.Marks.{mark, markIf, smallestFrom};
+use base::bit;
 use record::no_such_seat;
 
 // One seat more; what is no seat's number leaves no mark.
@@ -38,21 +38,13 @@ pub fn smallest(marks: [bool; 8]) -> u8
     0
 }
 
-// As `bit` of base, with the bound by which the sum below stays small.
-fn one_if(test: bool) -> u8
-    ensures is { λ r. ⌜ r ≡ cond test 1 0 ⌝ }
-    ensures small { λ r. ⌜ r ≤ 1 ⌝ }
-{
-    if test { 1 } else { 0 }
-}
-
 // How many are marked.
 pub fn marked(marks: [bool; 8]) -> u8
-    ensures { λ r. ⌜ r ≡ marked marks ⌝ }
+    ensures { λ r. ⌜ r ≡ howMany (λ m. m) marks ⌝ }
 {
     let mut n: u8 = 0;
     for i in 0..8 {
-        n += one_if(marks[i]);
+        n += bit(marks[i]);
     }
     n
 }

@@ -3,9 +3,6 @@ use borrow.Author.Needs.{needs}
 use Rattle.air.proofs.air.standing.Statement.{statement}
 use Rattle.air.proofs.air.standing.Tie as tie
 
-seat-of-requires : tie.Need-seat-of-requires
-seat-of-requires c κs = search needs
-
 takes-part-requires : tie.Need-takes-part-requires
 takes-part-requires c κs = search needs
 
@@ -19,5 +16,4 @@ returns-2 : tie.Need-returns-2
 returns-2 c = search rules
 
 pub standing-spec : {M : Type 1} → statement M
-standing-spec =
-    tie.close (tie.spec seat-of-requires takes-part-requires rank-requires returns returns-2)
+standing-spec = tie.close (tie.spec takes-part-requires rank-requires returns returns-2)
