@@ -1,7 +1,7 @@
 -- Who is on the air: for each way out of the code, that its answer is the definition's.
 use Prim.Native.Nat.{ℕ, _-_, _<_, _≤_}
 use mathlib.Core.Path.{_≡_, ap, _∙_}
-use mathlib.Core.Bool.{Bool, true, false, and-true, and-false}
+use mathlib.Core.Bool.{Bool, true, false, _&&_, and-true, and-false}
 use mathlib.Core.List.{List, []}
 use borrow.Author.Needs.{needs}
 use borrow.Author.Tests.{lt-ltb, le-ltb, le-leb, lt-leb, ne-eqb}
@@ -9,8 +9,8 @@ use lib.Dec.{ltb}
 use lib.ListN.{getD, set, replicate}
 use Rattle.base.specs.Lists.{howMany}
 use Rattle.record.specs.Record.{noSuchSeat}
-use Rattle.air.specs.Air.{rank, keyed, takesPart, among}
-use Rattle.air.specs.Marks.{standing, rankOf, seatsAt, firstAt, mark, markAll, markIf, marksOf, leadersAt, addedAt, sends, sendsFrom, pttsShown}
+use Rattle.air.specs.Air.{rank, keyed, among}
+use Rattle.air.specs.Marks.{standing, rankOf, seatsAt, firstAt, mark, markAll, markIf, marksOf, leadersAt, addedAt, sendsFrom, pttsShown}
 use Rattle.air.proofs.RankLaws.{codes}
 use Rattle.air.proofs.Turns.{turns}
 use Rattle.air.proofs.Marking.{mark-list, mark-first}
@@ -25,27 +25,18 @@ module _ (f : Field) where
   pub keyed-on : (r : ℕ) → r ≡ rank (f .ptt) → f .pm ≡ false → ltb 0 r ≡ keyed f
   keyed-on r e p = simp (e, p, and-true)
 
-module _ (healthy : Bool) (s : Seat) where
-  pub part-asked : (r : Bool) → healthy ≡ true → s .opened ≡ true → r ≡ keyed (s .heard .field) → r ≡ takesPart healthy s
-  unfolding takesPart
-  part-asked r h o e = simp (h, o, e)
-
-  pub part-closed : healthy ≡ true → s .opened ≡ false → false ≡ takesPart healthy s
-  unfolding takesPart
-  part-closed h o = simp (h, o)
-
-  pub part-unhealthy : healthy ≡ false → false ≡ takesPart healthy s
-  unfolding takesPart
-  part-unhealthy h = simp h
-
-module _ (healthy : Bool) (s : Seat) (part : Bool) (says : part ≡ takesPart healthy s) where
-  pub standing-ranked : (r : ℕ) → part ≡ true → r ≡ rank (s .heard .field .ptt) → r ≡ standing healthy s
+module _ (healthy opened muted : Bool) (ptt : ℕ) where
+  pub standing-ranked : (r : ℕ) → healthy && opened ≡ true → muted ≡ false → r ≡ rank ptt → r ≡ standing healthy opened muted ptt
   unfolding standing
-  standing-ranked r t e = rw (← says, t) e
+  standing-ranked r p m e = simp (p, m) e
 
-  pub standing-none : part ≡ false → 0 ≡ standing healthy s
+  pub standing-muted : healthy && opened ≡ true → muted ≡ true → 0 ≡ standing healthy opened muted ptt
   unfolding standing
-  standing-none t = rw (← says, t)
+  standing-muted p m = simp (m, and-false)
+
+  pub standing-out : healthy && opened ≡ false → 0 ≡ standing healthy opened muted ptt
+  unfolding standing
+  standing-out p = simp p
 
 module _ (standings : List ℕ) (n : ℕ) (s : Bool) (e : s ≡ noSuchSeat n) where
   pub rank-none : s ≡ true → 0 ≡ rankOf standings n
@@ -67,13 +58,6 @@ module _ (marks : List Bool) (n : ℕ) where
 
   pub mark-if-so : (t : Bool) (r : List Bool) → t ≡ true → r ≡ mark marks n → r ≡ markIf t marks n
   mark-if-so t r h e = simp (h, e)
-
-module _ (m : Bool) (s : Seat) where
-  pub sends-on : m ≡ true → s .heard .field .ptts ≡ sends m s
-  sends-on e = simp e
-
-  pub sends-off : m ≡ false → false ≡ sends m s
-  sends-off e = simp e
 
 module _ (seats : List Seat) (on : List Bool) (k : ℕ) (counted : k ≡ howMany (λ m. m) on) where
   pub ptts-several : 2 ≤ k → true ≡ pttsShown seats on
@@ -112,4 +96,4 @@ module _ (leads : List Bool) (couplingSummation : Bool) (top : ℕ) (order ranks
   unfolding addedAt markAll
   added-none c = simp c
 
-pub ruleset rules = (codes, keyed-muted, keyed-on, part-asked, part-closed, part-unhealthy, standing-ranked, standing-none, rank-none, rank-there, mark-none, mark-seat, mark-if-so, sends-on, sends-off, ptts-several, ptts-sent, leads-nobody, leads-all, leads-first, added-coupled, added-under, added-none, air-found, turns, needs)
+pub ruleset rules = (codes, keyed-muted, keyed-on, standing-ranked, standing-muted, standing-out, rank-none, rank-there, mark-none, mark-seat, mark-if-so, ptts-several, ptts-sent, leads-nobody, leads-all, leads-first, added-coupled, added-under, added-none, air-found, turns, needs)

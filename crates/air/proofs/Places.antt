@@ -4,35 +4,50 @@ use mathlib.Core.Path.{_≡_, refl, ap, sym, _∙_}
 use mathlib.Core.Bool.{Bool, true, false, cond, not, _&&_, and-false}
 use mathlib.Core.List.{List, [], _∷_, map}
 use native.Mathlib.Omega.{arith}
-use borrow.Author.Tests.{ne-eqb, ltb-true}
+use borrow.Author.Tests.{ne-eqb, ltb-true, ltb-false}
 use lib.Dec.{eqb, ltb}
 use lib.ListN.{getD, List·getD-map}
 use Rattle.record.specs.Record.{noSuchSeat, closedSeat, seatOf}
 use Rattle.air.specs.Air.{rank, takesPart, keyingsOf, keyingOf, topRank, atRank}
-use Rattle.air.specs.Marks.{standing, rankOf, highest, seatsAt}
+use Rattle.air.specs.Marks.{standing, standingOf, rankOf, highest, seatsAt}
 use Rattle.record.specs.declared.seat.Seat.{Seat}
 
 module _ (healthy : Bool) (seats : List Seat) where
   abbrev pub rankNow : ℕ → ℕ
-  rankNow n = standing healthy (seatOf seats n)
+  rankNow n = cond (takesPart healthy (seatOf seats n)) (rank (seatOf seats n .heard .field .ptt)) 0
 
-  rank-of-seat : (n : ℕ) → rankOf (map (standing healthy) seats) n ≡ rankNow n
-  unfolding rankOf standing seatOf takesPart
-  rank-of-seat n = by-number (noSuchSeat n)
+  -- of the lowest rank, or not keyed: both are 0
+  stands : (s : Seat) → standingOf healthy s ≡ cond (takesPart healthy s) (rank (s .heard .field .ptt)) 0
+  unfolding standing takesPart
+  stands s = by-part healthy (s .opened) (not (s .heard .field .pm)) (ltb 0 k) refl
     where
-      none : standing healthy closedSeat ≡ 0
+      k : ℕ
+      k = rank (s .heard .field .ptt)
+
+      by-part : (a b d ranked : Bool) → ltb 0 k ≡ ranked → cond (a && b && d) k 0 ≡ cond (a && b && (ranked && d)) k 0
+      by-part false b d ranked e = refl
+      by-part true false d ranked e = refl
+      by-part true true d true e = refl
+      by-part true true false false e = refl
+      by-part true true true false e = omega (arith, ltb-false 0 k e)
+
+  rank-of-seat : (n : ℕ) → rankOf (map (standingOf healthy) seats) n ≡ rankNow n
+  unfolding rankOf seatOf standing
+  rank-of-seat n = by-number (noSuchSeat n) ∙ stands (seatOf seats n)
+    where
+      none : standingOf healthy closedSeat ≡ 0
       none = rw (and-false healthy)
 
-      by-number : (t : Bool) → cond t 0 (getD (map (standing healthy) seats) (n - 1) 0) ≡ standing healthy (cond t closedSeat (getD seats (n - 1) closedSeat))
+      by-number : (t : Bool) → cond t 0 (getD (map (standingOf healthy) seats) (n - 1) 0) ≡ standingOf healthy (cond t closedSeat (getD seats (n - 1) closedSeat))
       by-number true = sym none
-      by-number false = ap (getD (map (standing healthy) seats) (n - 1)) (sym none) ∙ List·getD-map (standing healthy) seats (n - 1) closedSeat
+      by-number false = ap (getD (map (standingOf healthy) seats) (n - 1)) (sym none) ∙ List·getD-map (standingOf healthy) seats (n - 1) closedSeat
 
-  pub ranks-in-order : (order : List ℕ) → map (rankOf (map (standing healthy) seats)) order ≡ map rankNow order
+  pub ranks-in-order : (order : List ℕ) → map (rankOf (map (standingOf healthy) seats)) order ≡ map rankNow order
   ranks-in-order [] = refl
   ranks-in-order (n ∷ order) = rw (rank-of-seat n, ranks-in-order order)
 
   pub highest-is-top : (order : List ℕ) → highest (map rankNow order) ≡ topRank (keyingsOf healthy seats order)
-  unfolding highest standing keyingsOf topRank
+  unfolding highest keyingsOf topRank
   highest-is-top [] = refl
   highest-is-top (n ∷ order) = by-part (takesPart healthy (seatOf seats n)) (highest-is-top order)
     where
@@ -46,7 +61,7 @@ module _ (healthy : Bool) (seats : List Seat) where
       by-part false h = omega (arith, h)
 
   pub seats-at-rank : (r : ℕ) (order : List ℕ) → (r ≡ 0 → ⊥) → seatsAt r order (map rankNow order) ≡ atRank r (keyingsOf healthy seats order)
-  unfolding seatsAt standing keyingsOf atRank
+  unfolding seatsAt keyingsOf atRank
   seats-at-rank r [] some = refl
   seats-at-rank r (n ∷ order) some = by-part (takesPart healthy (seatOf seats n)) (seats-at-rank r order some)
     where

@@ -1,7 +1,7 @@
 -- The loops over the order and over marks: what is left to do at each turn, and at the end.
 use Prim.Native.Nat.{ℕ, _+_, _<_, _≤_, max}
-use mathlib.Core.Path.{_≡_, sym, _∙_}
-use mathlib.Core.Bool.{Bool, true, false, cond}
+use mathlib.Core.Path.{_≡_}
+use mathlib.Core.Bool.{Bool, true, false, cond, _&&_}
 use mathlib.Core.List.{List, _∷_}
 use native.Mathlib.Omega.{arith}
 use borrow.Author.Tests.{eq-eqb, ne-eqb}
@@ -10,7 +10,7 @@ use lib.ListN.{length, getD, drop}
 use Rattle.base.proofs.Lists.{many-more, many-done}
 use Rattle.base.proofs.Loops.{left-more, left-done, fill-more, fill-done}
 use Rattle.record.specs.Record.{closedSeat}
-use Rattle.air.specs.Marks.{highest, seatsAt, firstAt, markAll, markIf, smallestFrom, sends, sendsFrom}
+use Rattle.air.specs.Marks.{highest, seatsAt, firstAt, markAll, markIf, smallestFrom, sendsFrom}
 use Rattle.record.specs.declared.seat.Seat.{Seat}
 
 module _ (ranks : List ℕ) (i top : ℕ) (eight : length ranks ≡ 8) where
@@ -70,15 +70,15 @@ module _ (marks : List Bool) (i n : ℕ) (eight : length marks ≡ 8) where
   smallest-none h k = simp (left-done marks i eight h) at k
 
 module _ (seats : List Seat) (on : List Bool) (i : ℕ) (eight : length on ≡ 8) where
-  pub sends-found : (r : Bool) → i < 8 → r ≡ sends (getD on i false) (getD seats i closedSeat) → r ≡ true
+  pub sends-found : i < 8 → getD on i false && getD seats i closedSeat .heard .field .ptts ≡ true
       → sendsFrom i seats (drop i on) ≡ sendsFrom 0 seats on → true ≡ sendsFrom 0 seats on
   unfolding sendsFrom
-  sends-found r h e t k = simp (left-more on i eight false h, sym e ∙ t) at k
+  sends-found h t k = simp (left-more on i eight false h, t) at k
 
-  pub sends-more : (r : Bool) → i < 8 → r ≡ sends (getD on i false) (getD seats i closedSeat) → r ≡ false
+  pub sends-more : i < 8 → getD on i false && getD seats i closedSeat .heard .field .ptts ≡ false
       → sendsFrom i seats (drop i on) ≡ sendsFrom 0 seats on → sendsFrom (i + 1) seats (drop (i + 1) on) ≡ sendsFrom 0 seats on
   unfolding sendsFrom
-  sends-more r h e t k = simp (left-more on i eight false h, sym e ∙ t) at k
+  sends-more h t k = simp (left-more on i eight false h, t) at k
 
   pub sends-none : 8 ≤ i → sendsFrom i seats (drop i on) ≡ sendsFrom 0 seats on → false ≡ sendsFrom 0 seats on
   unfolding sendsFrom

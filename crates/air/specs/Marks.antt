@@ -1,18 +1,21 @@
 -- For proofs alone, what the private functions find: the rank of each seat, then at each place of the order, and a set of
 -- seats as eight marks. proofs/AirFound.antt shows that it is what Air says.
 use Prim.Native.Nat.{ℕ, _+_, _-_, max}
-use mathlib.Core.Bool.{Bool, true, false, cond, _&&_, _||_}
+use mathlib.Core.Bool.{Bool, true, false, cond, not, _&&_, _||_}
 use mathlib.Core.List.{List, [], _∷_, map, foldl}
 use lib.Dec.{eqb, ltb, leb}
 use lib.ListN.{getD, set}
 use Rattle.base.specs.Lists.{howMany}
 use Rattle.record.specs.Record.{seatNumbers, noSuchSeat, closedSeat}
-use Rattle.air.specs.Air.{rank, couplingRank, takesPart, theFirst, among}
+use Rattle.air.specs.Air.{rank, couplingRank, theFirst, among}
 use Rattle.record.specs.declared.seat.Seat.{Seat}
 
--- The rank at which a seat takes part, 0 if it takes none.
-unfoldable pub standing : (healthy : Bool) → Seat → ℕ
-standing healthy s = cond (takesPart healthy s) (rank (s .heard .field .ptt)) 0
+-- The rank at which a seat takes part, 0 if it takes none: also that of PTT off is 0.
+unfoldable pub standing : (healthy opened muted : Bool) → (ptt : ℕ) → ℕ
+standing healthy opened muted ptt = cond (healthy && opened && not muted) (rank ptt) 0
+
+abbrev pub standingOf : (healthy : Bool) → Seat → ℕ
+standingOf healthy s = standing healthy (s .opened) (s .heard .field .pm) (s .heard .field .ptt)
 
 -- The rank of the seat of a number; what is no seat's number has none.
 unfoldable pub rankOf : (standings : List ℕ) → (n : ℕ) → ℕ
@@ -58,13 +61,10 @@ unfoldable pub smallestFrom : (n : ℕ) → List Bool → ℕ
 smallestFrom n [] = 0
 smallestFrom n (m ∷ marks) = cond m n (smallestFrom (n + 1) marks)
 
-abbrev pub sends : Bool → Seat → Bool
-sends m s = m && s .heard .field .ptts
-
 -- A marked seat last sent PTTS, the first mark being that of place i.
 unfoldable pub sendsFrom : (i : ℕ) → List Seat → List Bool → Bool
 sendsFrom i seats [] = false
-sendsFrom i seats (m ∷ marks) = sends m (getD seats i closedSeat) || sendsFrom (i + 1) seats marks
+sendsFrom i seats (m ∷ marks) = (m && getD seats i closedSeat .heard .field .ptts) || sendsFrom (i + 1) seats marks
 
 unfoldable pub pttsShown : List Seat → List Bool → Bool
 pttsShown seats on = leb 2 (howMany (λ m. m) on) || sendsFrom 0 seats on

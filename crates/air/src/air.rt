@@ -2,8 +2,8 @@
 ghost use mathlib.Core.Path.{_≡_};
 ghost use Prim.Native.Nat.{max};
 ghost use mathlib.Core.List.{map};
-ghost use Rattle.air.specs.Air.{rank, typeOf, keyed, takesPart, benchAir};
-ghost use Rattle.air.specs.Marks.{standing, rankOf, highest, seatsAt, firstAt, markAll, marksOf, leadersAt, addedAt, sends, sendsFrom, pttsShown};
+ghost use Rattle.air.specs.Air.{rank, typeOf, keyed, benchAir};
+ghost use Rattle.air.specs.Marks.{standing, standingOf, rankOf, highest, seatsAt, firstAt, markAll, marksOf, leadersAt, addedAt, sendsFrom, pttsShown};
 use crate::marks::mark;
 use crate::marks::mark_if;
 use crate::marks::marked;
@@ -52,37 +52,29 @@ pub fn keyed(f: Field) -> bool
     if f.pm { false } else { on }
 }
 
-fn takes_part(healthy: bool, s: Seat) -> bool
-    ensures { λ r. ⌜ r ≡ takesPart healthy s ⌝ }
+// The rank at which a seat takes part, 0 if it takes none: also that of PTT off is 0.
+fn standing(healthy: bool, opened: bool, muted: bool, ptt: u8) -> u8
+    ensures { λ r. ⌜ r ≡ standing healthy opened muted ptt ⌝ }
 {
-    if healthy {
-        if s.opened {
-            let heard = s.heard;
-            let field = heard.field;
-            return keyed(field);
-        }
+    if healthy & opened {
+        if muted { 0 } else { rank(ptt) }
+    } else {
+        0
     }
-    false
-}
-
-// The rank at which a seat takes part, 0 if it takes none.
-fn standing(healthy: bool, s: Seat) -> u8
-    ensures { λ r. ⌜ r ≡ standing healthy s ⌝ }
-{
-    if takes_part(healthy, s) {
-        return rank(s.heard.field.ptt);
-    }
-    0
 }
 
 // The rank at which each seat takes part, by its place.
 fn standings(healthy: bool, seats: [Seat; 8]) -> [u8; 8]
-    ensures { λ r. ⌜ r ≡ map (standing healthy) seats ⌝ }
+    ensures { λ r. ⌜ r ≡ map (standingOf healthy) seats ⌝ }
 {
     let mut standings = [0u8; 8];
     for i in 0..8 {
-        let s = seats[i];
-        standings[i] = standing(healthy, s);
+        standings[i] = standing(
+            healthy,
+            seats[i].opened,
+            seats[i].heard.field.pm,
+            seats[i].heard.field.ptt,
+        );
     }
     standings
 }
@@ -182,18 +174,11 @@ fn with_added(
 }
 
 // A seat shows its PTTS only while it is on the air.
-fn sends(on: bool, s: Seat) -> bool
-    ensures { λ r. ⌜ r ≡ sends on s ⌝ }
-{
-    if on { s.heard.field.ptts } else { false }
-}
-
 fn any_sends(seats: [Seat; 8], on: [bool; 8]) -> bool
     ensures { λ r. ⌜ r ≡ sendsFrom 0 seats on ⌝ }
 {
     for i in 0..8 {
-        let s = seats[i];
-        if sends(on[i], s) {
+        if on[i] & seats[i].heard.field.ptts {
             return true;
         }
     }
