@@ -199,14 +199,13 @@ fn ptts_shown(seats: [Seat; 8], on: [bool; 8]) -> bool
 pub fn bench_air(b: Bench) -> Air
     ensures { λ r. ⌜ r ≡ benchAir b ⌝ }
 {
-    let setup = b.setup;
     let seats = b.seats;
     let order = b.order;
     let standings = standings(b.healthy, seats);
     let ranks = ranks(standings, order);
     let top = highest(ranks);
-    let leads = leading(setup.equal_summation, top, order, ranks);
-    let on = with_added(leads, setup.coupling_summation, top, order, ranks);
+    let leads = leading(b.setup.equal_summation, top, order, ranks);
+    let on = with_added(leads, b.setup.coupling_summation, top, order, ranks);
     Air {
         on,
         leads,
