@@ -6,11 +6,11 @@ use mathlib.Core.List.{List, []}
 use borrow.Author.Needs.{needs}
 use borrow.Author.Tests.{lt-ltb, le-ltb, le-leb, lt-leb, ne-eqb}
 use lib.Dec.{ltb}
-use lib.ListN.{getD, set, replicate}
+use lib.ListN.{getD, replicate}
 use Rattle.base.specs.Lists.{howMany}
 use Rattle.record.specs.Record.{noSuchSeat}
 use Rattle.air.specs.Air.{rank, keyed, among}
-use Rattle.air.specs.Marks.{standing, rankOf, seatsAt, firstAt, mark, markAll, markIf, marksOf, leadersAt, addedAt, sendsFrom, pttsShown}
+use Rattle.air.specs.Marks.{standing, rankOf, seatsAt, firstAt, markIf, markAll, marksOf, leadersAt, addedAt, sendsFrom, pttsShown}
 use Rattle.air.proofs.RankLaws.{codes}
 use Rattle.air.proofs.Turns.{turns}
 use Rattle.air.proofs.Marking.{mark-list, mark-first}
@@ -47,18 +47,6 @@ module _ (standings : List ℕ) (n : ℕ) (s : Bool) (e : s ≡ noSuchSeat n) wh
   unfolding rankOf
   rank-there h = rw (← e, h)
 
-module _ (marks : List Bool) (n : ℕ) where
-  pub mark-none : (s : Bool) → s ≡ noSuchSeat n → s ≡ true → marks ≡ mark marks n
-  unfolding mark
-  mark-none s e h = simp (← e, h)
-
-  pub mark-seat : (s : Bool) → s ≡ noSuchSeat n → s ≡ false → set marks (n - 1) true ≡ mark marks n
-  unfolding mark
-  mark-seat s e h = simp (← e, h)
-
-  pub mark-if-so : (t : Bool) (r : List Bool) → t ≡ true → r ≡ mark marks n → r ≡ markIf t marks n
-  mark-if-so t r h e = simp (h, e)
-
 module _ (seats : List Seat) (on : List Bool) (k : ℕ) (counted : k ≡ howMany (λ m. m) on) where
   pub ptts-several : 2 ≤ k → true ≡ pttsShown seats on
   unfolding pttsShown
@@ -78,10 +66,10 @@ module _ (equalSummation : Bool) (top : ℕ) (order ranks : List ℕ) where
   unfolding leadersAt among
   leads-all r z s e = simp (ne-eqb _ _ z, s) (e ∙ mark-list [] (seatsAt top order ranks))
 
-  pub leads-first : (first : ℕ) (r : List Bool) → (top ≡ 0 → ⊥) → equalSummation ≡ false → first ≡ firstAt top order ranks → r ≡ mark (replicate 8 false) first
+  pub leads-first : (first : ℕ) (r : List Bool) → (top ≡ 0 → ⊥) → equalSummation ≡ false → first ≡ firstAt top order ranks → r ≡ markIf true (replicate 8 false) first
       → r ≡ marksOf (leadersAt equalSummation top order ranks)
   unfolding leadersAt among
-  leads-first first r z s f e = simp (ne-eqb _ _ z, s) (e ∙ ap (mark (replicate 8 false)) f ∙ mark-first top order ranks)
+  leads-first first r z s f e = simp (ne-eqb _ _ z, s) (e ∙ ap (markIf true (replicate 8 false)) f ∙ mark-first top order ranks)
 
 module _ (leads : List Bool) (couplingSummation : Bool) (top : ℕ) (order ranks : List ℕ) where
   pub added-coupled : (r : List Bool) → couplingSummation ≡ true → 2 < top → r ≡ markAll leads (seatsAt 2 order ranks) → r ≡ markAll leads (addedAt couplingSummation top order ranks)
@@ -96,4 +84,4 @@ module _ (leads : List Bool) (couplingSummation : Bool) (top : ℕ) (order ranks
   unfolding addedAt markAll
   added-none c = simp c
 
-pub ruleset rules = (codes, keyed-muted, keyed-on, standing-ranked, standing-muted, standing-out, rank-none, rank-there, mark-none, mark-seat, mark-if-so, ptts-several, ptts-sent, leads-nobody, leads-all, leads-first, added-coupled, added-under, added-none, air-found, turns, needs)
+pub ruleset rules = (codes, keyed-muted, keyed-on, standing-ranked, standing-muted, standing-out, rank-none, rank-there, ptts-several, ptts-sent, leads-nobody, leads-all, leads-first, added-coupled, added-under, added-none, air-found, turns, needs)

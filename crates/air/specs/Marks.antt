@@ -4,7 +4,7 @@ use Prim.Native.Nat.{ℕ, _+_, _-_, max}
 use mathlib.Core.Bool.{Bool, true, false, cond, not, _&&_, _||_}
 use mathlib.Core.List.{List, [], _∷_, map, foldl}
 use lib.Dec.{eqb, ltb, leb}
-use lib.ListN.{getD, set}
+use lib.ListN.{getD}
 use Rattle.base.specs.Lists.{howMany}
 use Rattle.record.specs.Record.{seatNumbers, noSuchSeat, closedSeat}
 use Rattle.air.specs.Air.{rank, couplingRank, theFirst, among}
@@ -40,14 +40,16 @@ firstAt r (n ∷ order) (k ∷ ranks) = cond (eqb k r) n (firstAt r order ranks)
 abbrev pub marksOf : List ℕ → List Bool
 marksOf ns = map (among ns) seatNumbers
 
-unfoldable pub mark : List Bool → ℕ → List Bool
-mark marks n = cond (noSuchSeat n) marks (set marks (n - 1) true)
+-- One seat more, if the test holds; the first mark is that of seat k.
+unfoldable pub markFrom : (k : ℕ) → (test : Bool) → List Bool → (n : ℕ) → List Bool
+markFrom k test [] n = []
+markFrom k test (m ∷ marks) n = (m || (test && eqb n k)) ∷ markFrom (k + 1) test marks n
+
+abbrev pub markIf : (test : Bool) → List Bool → (n : ℕ) → List Bool
+markIf test marks n = markFrom 1 test marks n
 
 unfoldable pub markAll : List Bool → List ℕ → List Bool
-markAll marks ns = foldl mark marks ns
-
-abbrev pub markIf : Bool → List Bool → ℕ → List Bool
-markIf t marks n = cond t (mark marks n) marks
+markAll marks ns = foldl (markIf true) marks ns
 
 unfoldable pub leadersAt : (equalSummation : Bool) → (top : ℕ) → (order ranks : List ℕ) → List ℕ
 leadersAt equalSummation top order ranks =

@@ -4,7 +4,6 @@ ghost use Prim.Native.Nat.{max};
 ghost use mathlib.Core.List.{map};
 ghost use Rattle.air.specs.Air.{rank, typeOf, keyed, benchAir};
 ghost use Rattle.air.specs.Marks.{standing, standingOf, rankOf, highest, seatsAt, firstAt, markAll, marksOf, leadersAt, addedAt, sendsFrom, pttsShown};
-use crate::marks::mark;
 use crate::marks::mark_if;
 use crate::marks::marked;
 use crate::marks::smallest;
@@ -152,7 +151,7 @@ fn leading(equal_summation: bool, top: u8, order: [u8; 8], ranks: [u8; 8]) -> [b
         return mark_at(nobody, top, order, ranks);
     }
     let first = first_at(top, order, ranks);
-    mark(nobody, first)
+    mark_if(true, nobody, first)
 }
 
 // With coupling summation the participants keyed Coupling are added when the top rank is above Coupling.

@@ -1,27 +1,20 @@
 // A set of seats as eight marks; seat n has place n - 1. specs/Marks.antt says what each function finds.
 ghost use mathlib.Core.Path.{_≡_};
 ghost use Rattle.base.specs.Lists.{howMany};
-ghost use Rattle.air.specs.Marks.{mark, markIf, smallestFrom};
+ghost use Rattle.air.specs.Marks.{markIf, smallestFrom};
 use base::bit;
-use record::no_such_seat;
 
-// One seat more; what is no seat's number leaves no mark.
-pub fn mark(marks: [bool; 8], n: u8) -> [bool; 8]
-    ensures { λ r. ⌜ r ≡ mark marks n ⌝ }
-{
-    if no_such_seat(n) {
-        return marks;
-    }
-    let mut more = marks;
-    let i = (n - 1) as usize;
-    more[i] = true;
-    more
-}
-
+// One seat more, if the test holds; what is no seat's number leaves no mark.
 pub fn mark_if(test: bool, marks: [bool; 8], n: u8) -> [bool; 8]
     ensures { λ r. ⌜ r ≡ markIf test marks n ⌝ }
 {
-    if test { mark(marks, n) } else { marks }
+    let mut more = marks;
+    let mut seat: u8 = 1;
+    for i in 0..8 {
+        more[i] = more[i] | (test & (n == seat));
+        seat += 1;
+    }
+    more
 }
 
 // The smallest seat that is marked, 0 if none is.
