@@ -1,15 +1,16 @@
 -- Who is on the air: for each way out of the code, that its answer is the definition's.
 use Prim.Native.Nat.{ℕ, _-_, _<_, _≤_}
 use mathlib.Core.Path.{_≡_, ap, _∙_}
-use mathlib.Core.Bool.{Bool, true, false, and-true, and-false}
+use mathlib.Core.Bool.{Bool, true, false, _&&_, and-true, and-false}
 use mathlib.Core.List.{List, []}
 use borrow.Author.Needs.{needs}
 use borrow.Author.Tests.{lt-ltb, le-ltb, le-leb, lt-leb, ne-eqb}
 use lib.Dec.{ltb}
-use lib.ListN.{set, replicate}
-use Rattle.record.specs.Record.{noSuchSeat, seatOf}
-use Rattle.air.specs.Air.{rank, keyed, takesPart, among}
-use Rattle.air.specs.Marks.{standing, seatsAt, firstAt, mark, markAll, markIf, marksOf, leadersAt, addedAt, marked, sends, sendsFrom, pttsShown}
+use lib.ListN.{getD, replicate}
+use Rattle.base.specs.Lists.{howMany}
+use Rattle.record.specs.Record.{noSuchSeat}
+use Rattle.air.specs.Air.{rank, keyed, among}
+use Rattle.air.specs.Marks.{standing, rankOf, seatsAt, firstAt, markIf, markAll, marksOf, leadersAt, addedAt, sendsFrom, pttsShown}
 use Rattle.air.proofs.RankLaws.{codes}
 use Rattle.air.proofs.Turns.{turns}
 use Rattle.air.proofs.Marking.{mark-list, mark-first}
@@ -24,48 +25,29 @@ module _ (f : Field) where
   pub keyed-on : (r : ℕ) → r ≡ rank (f .ptt) → f .pm ≡ false → ltb 0 r ≡ keyed f
   keyed-on r e p = simp (e, p, and-true)
 
-module _ (healthy : Bool) (s : Seat) where
-  pub part-asked : (r : Bool) → healthy ≡ true → s .opened ≡ true → r ≡ keyed (s .heard .field) → r ≡ takesPart healthy s
-  unfolding takesPart
-  part-asked r h o e = simp (h, o, e)
-
-  pub part-closed : healthy ≡ true → s .opened ≡ false → false ≡ takesPart healthy s
-  unfolding takesPart
-  part-closed h o = simp (h, o)
-
-  pub part-unhealthy : healthy ≡ false → false ≡ takesPart healthy s
-  unfolding takesPart
-  part-unhealthy h = simp h
-
-module _ (healthy : Bool) (seats : List Seat) (n : ℕ) (s : Seat) (its : s ≡ seatOf seats n) (part : Bool) (says : part ≡ takesPart healthy s) where
-  pub standing-ranked : (r : ℕ) → part ≡ true → r ≡ rank (s .heard .field .ptt) → r ≡ standing healthy seats n
+module _ (healthy opened muted : Bool) (ptt : ℕ) where
+  pub standing-ranked : (r : ℕ) → healthy && opened ≡ true → muted ≡ false → r ≡ rank ptt → r ≡ standing healthy opened muted ptt
   unfolding standing
-  standing-ranked r t e = rw (← its, ← says, t) e
+  standing-ranked r p m e = simp (p, m) e
 
-  pub standing-none : part ≡ false → 0 ≡ standing healthy seats n
+  pub standing-muted : healthy && opened ≡ true → muted ≡ true → 0 ≡ standing healthy opened muted ptt
   unfolding standing
-  standing-none t = rw (← its, ← says, t)
+  standing-muted p m = simp (m, and-false)
 
-module _ (marks : List Bool) (n : ℕ) where
-  pub mark-none : (s : Bool) → s ≡ noSuchSeat n → s ≡ true → marks ≡ mark marks n
-  unfolding mark
-  mark-none s e h = simp (← e, h)
+  pub standing-out : healthy && opened ≡ false → 0 ≡ standing healthy opened muted ptt
+  unfolding standing
+  standing-out p = simp p
 
-  pub mark-seat : (s : Bool) → s ≡ noSuchSeat n → s ≡ false → set marks (n - 1) true ≡ mark marks n
-  unfolding mark
-  mark-seat s e h = simp (← e, h)
+module _ (standings : List ℕ) (n : ℕ) (s : Bool) (e : s ≡ noSuchSeat n) where
+  pub rank-none : s ≡ true → 0 ≡ rankOf standings n
+  unfolding rankOf
+  rank-none h = rw (← e, h)
 
-  pub mark-if-so : (t : Bool) (r : List Bool) → t ≡ true → r ≡ mark marks n → r ≡ markIf t marks n
-  mark-if-so t r h e = simp (h, e)
+  pub rank-there : s ≡ false → getD standings (n - 1) 0 ≡ rankOf standings n
+  unfolding rankOf
+  rank-there h = rw (← e, h)
 
-module _ (m : Bool) (s : Seat) where
-  pub sends-on : m ≡ true → s .heard .field .ptts ≡ sends m s
-  sends-on e = simp e
-
-  pub sends-off : m ≡ false → false ≡ sends m s
-  sends-off e = simp e
-
-module _ (seats : List Seat) (on : List Bool) (k : ℕ) (counted : k ≡ marked on) where
+module _ (seats : List Seat) (on : List Bool) (k : ℕ) (counted : k ≡ howMany (λ m. m) on) where
   pub ptts-several : 2 ≤ k → true ≡ pttsShown seats on
   unfolding pttsShown
   ptts-several h = rw (← counted, le-leb _ _ h)
@@ -74,32 +56,32 @@ module _ (seats : List Seat) (on : List Bool) (k : ℕ) (counted : k ≡ marked 
   unfolding pttsShown
   ptts-sent r h e = rw (← counted, lt-leb _ _ h) e
 
-module _ (summation : Bool) (top : ℕ) (order ranks : List ℕ) where
-  pub leads-nobody : top ≡ 0 → replicate 8 false ≡ marksOf (leadersAt summation top order ranks)
+module _ (equalSummation : Bool) (top : ℕ) (order ranks : List ℕ) where
+  pub leads-nobody : top ≡ 0 → replicate 8 false ≡ marksOf (leadersAt equalSummation top order ranks)
   unfolding leadersAt among
   leads-nobody e = simp e
 
-  pub leads-all : (r : List Bool) → (top ≡ 0 → ⊥) → summation ≡ true → r ≡ markAll (replicate 8 false) (seatsAt top order ranks)
-      → r ≡ marksOf (leadersAt summation top order ranks)
+  pub leads-all : (r : List Bool) → (top ≡ 0 → ⊥) → equalSummation ≡ true → r ≡ markAll (replicate 8 false) (seatsAt top order ranks)
+      → r ≡ marksOf (leadersAt equalSummation top order ranks)
   unfolding leadersAt among
   leads-all r z s e = simp (ne-eqb _ _ z, s) (e ∙ mark-list [] (seatsAt top order ranks))
 
-  pub leads-first : (first : ℕ) (r : List Bool) → (top ≡ 0 → ⊥) → summation ≡ false → first ≡ firstAt top order ranks → r ≡ mark (replicate 8 false) first
-      → r ≡ marksOf (leadersAt summation top order ranks)
+  pub leads-first : (first : ℕ) (r : List Bool) → (top ≡ 0 → ⊥) → equalSummation ≡ false → first ≡ firstAt top order ranks → r ≡ markIf true (replicate 8 false) first
+      → r ≡ marksOf (leadersAt equalSummation top order ranks)
   unfolding leadersAt among
-  leads-first first r z s f e = simp (ne-eqb _ _ z, s) (e ∙ ap (mark (replicate 8 false)) f ∙ mark-first top order ranks)
+  leads-first first r z s f e = simp (ne-eqb _ _ z, s) (e ∙ ap (markIf true (replicate 8 false)) f ∙ mark-first top order ranks)
 
-module _ (leads : List Bool) (coupling : Bool) (top : ℕ) (order ranks : List ℕ) where
-  pub added-coupled : (r : List Bool) → coupling ≡ true → 2 < top → r ≡ markAll leads (seatsAt 2 order ranks) → r ≡ markAll leads (addedAt coupling top order ranks)
+module _ (leads : List Bool) (couplingSummation : Bool) (top : ℕ) (order ranks : List ℕ) where
+  pub added-coupled : (r : List Bool) → couplingSummation ≡ true → 2 < top → r ≡ markAll leads (seatsAt 2 order ranks) → r ≡ markAll leads (addedAt couplingSummation top order ranks)
   unfolding addedAt
   added-coupled r c h e = simp (c, lt-ltb _ _ h) e
 
-  pub added-under : coupling ≡ true → top ≤ 2 → leads ≡ markAll leads (addedAt coupling top order ranks)
+  pub added-under : couplingSummation ≡ true → top ≤ 2 → leads ≡ markAll leads (addedAt couplingSummation top order ranks)
   unfolding addedAt markAll
   added-under c h = simp (c, le-ltb _ _ h)
 
-  pub added-none : coupling ≡ false → leads ≡ markAll leads (addedAt coupling top order ranks)
+  pub added-none : couplingSummation ≡ false → leads ≡ markAll leads (addedAt couplingSummation top order ranks)
   unfolding addedAt markAll
   added-none c = simp c
 
-pub ruleset rules = (codes, keyed-muted, keyed-on, part-asked, part-closed, part-unhealthy, standing-ranked, standing-none, mark-none, mark-seat, mark-if-so, sends-on, sends-off, ptts-several, ptts-sent, leads-nobody, leads-all, leads-first, added-coupled, added-under, added-none, air-found, turns, needs)
+pub ruleset rules = (codes, keyed-muted, keyed-on, standing-ranked, standing-muted, standing-out, rank-none, rank-there, ptts-several, ptts-sent, leads-nobody, leads-all, leads-first, added-coupled, added-under, added-none, air-found, turns, needs)

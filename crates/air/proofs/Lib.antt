@@ -1,6 +1,6 @@
 pub mod RankLaws
-pub mod Turns
 pub mod Marking
+pub mod Turns
 pub mod Places
 pub mod AirFound
 pub mod AirLaws

@@ -1,15 +1,19 @@
 -- The loops over the order and over marks: what is left to do at each turn, and at the end.
 use Prim.Native.Nat.{ℕ, suc, _+_, _<_, _≤_, max}
-use mathlib.Core.Path.{_≡_, sym, _∙_}
-use mathlib.Core.Bool.{Bool, true, false, cond}
-use mathlib.Core.List.{List, _∷_}
+use mathlib.Core.Path.{_≡_}
+use mathlib.Core.Bool.{Bool, true, false, cond, _&&_, _||_}
+use mathlib.Core.List.{List, _∷_, _++_, append-assoc, append-nil}
 use native.Mathlib.Omega.{arith}
 use borrow.Author.Tests.{eq-eqb, ne-eqb}
 use lib.Dec.{eqb}
-use lib.ListN.{length, getD, drop}
+use native.Mathlib.Numerals.{add-one}
+use lib.ListN.{length, getD, set, take, drop}
+use lib.Seq.{take-suc-set, take-all, drop-set-lt}
+use Rattle.base.proofs.Lists.{many-more, many-done}
 use Rattle.base.proofs.Loops.{left-more, left-done, fill-more, fill-done}
 use Rattle.record.specs.Record.{closedSeat}
-use Rattle.air.specs.Marks.{highest, seatsAt, firstAt, markAll, markIf, smallestFrom, marked, sends, sendsFrom}
+use Rattle.air.specs.Marks.{highest, seatsAt, firstAt, markFrom, markAll, markIf, smallestFrom, sendsFrom}
+use Rattle.air.proofs.Marking.{mark-none}
 use Rattle.record.specs.declared.seat.Seat.{Seat}
 
 module _ (ranks : List ℕ) (i top : ℕ) (eight : length ranks ≡ 8) where
@@ -48,11 +52,28 @@ module _ (r : ℕ) (order ranks : List ℕ) (i : ℕ) (eight : length order ≡ 
 
       by-test : (t : Bool) → markAll marks (cond t (getD order i 0 ∷ rest) rest) ≡ all → markAll (markIf t marks (getD order i 0)) rest ≡ all
       by-test true k = k
-      by-test false k = k
+      by-test false k = rw (mark-none 1 marks (getD order i 0)) k
 
   pub mark-done : (marks all : List Bool) → 8 ≤ i → markAll marks (seatsAt r (drop i order) (drop i ranks)) ≡ all → marks ≡ all
   unfolding markAll seatsAt
   mark-done marks all h k = simp (left-done order i eight h) at k
+
+module _ (test : Bool) (n : ℕ) (marks all : List Bool) (i k : ℕ) (eight : length marks ≡ 8) where
+  pub place-more : i < 8 → take i marks ++ markFrom k test (drop i marks) n ≡ all
+      → take (i + 1) (set marks i (getD marks i false || (test && eqb n k))) ++ markFrom (k + 1) test (drop (i + 1) (set marks i (getD marks i false || (test && eqb n k)))) n ≡ all
+  unfolding markFrom
+  place-more h so-far =
+      rw (
+        add-one i,
+        take-suc-set marks i _ (omega arith),
+        drop-set-lt (suc i) marks i _ (omega arith),
+        append-assoc,
+      )
+      (rw (left-more marks i eight false h, add-one i) at so-far)
+
+  pub place-done : 8 ≤ i → take i marks ++ markFrom k test (drop i marks) n ≡ all → marks ≡ all
+  unfolding markFrom
+  place-done h so-far = rw (take-all i marks (omega arith), left-done marks i eight h, append-nil) at so-far
 
 module _ (marks : List Bool) (i n : ℕ) (eight : length marks ≡ 8) where
   pub smallest-found : i < 8 → getD marks i false ≡ true → smallestFrom n (drop i marks) ≡ smallestFrom 1 marks → n ≡ smallestFrom 1 marks
@@ -68,33 +89,19 @@ module _ (marks : List Bool) (i n : ℕ) (eight : length marks ≡ 8) where
   unfolding smallestFrom
   smallest-none h k = simp (left-done marks i eight h) at k
 
-  pub marked-more : (one : ℕ) → i < 8 → one ≡ cond (getD marks i false) 1 0 → n + marked (drop i marks) ≡ marked marks
-      → n + one + marked (drop (i + 1) marks) ≡ marked marks
-  unfolding marked
-  marked-more one h e k = by-mark (getD marks i false) e (rw (left-more marks i eight false h) at k)
-    where
-      by-mark : (m : Bool) → one ≡ cond m 1 0 → n + cond m (suc (marked (drop (i + 1) marks))) (marked (drop (i + 1) marks)) ≡ marked marks
-          → n + one + marked (drop (i + 1) marks) ≡ marked marks
-      by-mark true e k = omega arith
-      by-mark false e k = omega arith
-
-  pub marked-done : 8 ≤ i → n + marked (drop i marks) ≡ marked marks → n ≡ marked marks
-  unfolding marked
-  marked-done h k = omega (arith, rw (left-done marks i eight h) at k)
-
 module _ (seats : List Seat) (on : List Bool) (i : ℕ) (eight : length on ≡ 8) where
-  pub sends-found : (r : Bool) → i < 8 → r ≡ sends (getD on i false) (getD seats i closedSeat) → r ≡ true
+  pub sends-found : i < 8 → getD on i false && getD seats i closedSeat .heard .field .ptts ≡ true
       → sendsFrom i seats (drop i on) ≡ sendsFrom 0 seats on → true ≡ sendsFrom 0 seats on
   unfolding sendsFrom
-  sends-found r h e t k = simp (left-more on i eight false h, sym e ∙ t) at k
+  sends-found h t k = simp (left-more on i eight false h, t) at k
 
-  pub sends-more : (r : Bool) → i < 8 → r ≡ sends (getD on i false) (getD seats i closedSeat) → r ≡ false
+  pub sends-more : i < 8 → getD on i false && getD seats i closedSeat .heard .field .ptts ≡ false
       → sendsFrom i seats (drop i on) ≡ sendsFrom 0 seats on → sendsFrom (i + 1) seats (drop (i + 1) on) ≡ sendsFrom 0 seats on
   unfolding sendsFrom
-  sends-more r h e t k = simp (left-more on i eight false h, sym e ∙ t) at k
+  sends-more h t k = simp (left-more on i eight false h, t) at k
 
   pub sends-none : 8 ≤ i → sendsFrom i seats (drop i on) ≡ sendsFrom 0 seats on → false ≡ sendsFrom 0 seats on
   unfolding sendsFrom
   sends-none h k = simp (left-done on i eight h) at k
 
-pub ruleset turns = (fill-more, fill-done, highest-more, highest-done, first-found, first-more, first-none, mark-more, mark-done, smallest-found, smallest-more, smallest-none, marked-more, marked-done, sends-found, sends-more, sends-none)
+pub ruleset turns = (fill-more, fill-done, highest-more, highest-done, first-found, first-more, first-none, mark-more, mark-done, place-more, place-done, smallest-found, smallest-more, smallest-none, many-more, many-done, sends-found, sends-more, sends-none)

@@ -1,8 +1,9 @@
 -- 01, Who is on the air, sentence by sentence.
-use Prim.Native.Nat.{ℕ, suc, max}
+use Prim.Native.Nat.{ℕ, max}
 use mathlib.Core.Bool.{Bool, false, cond, not, _&&_, _||_}
 use mathlib.Core.List.{List, [], _∷_, _++_, map}
 use lib.Dec.{ltb, leb, eqb}
+use Rattle.base.specs.Lists.{howMany}
 use Rattle.packet.specs.Packet.{off, normal, coupling, priority, emergency, test}
 use Rattle.record.specs.Record.{seatNumbers, seatOf}
 use Rattle.record.specs.declared.setup.Setup.{Setup}
@@ -82,11 +83,6 @@ unfoldable pub smallest : List ℕ → (ns : List ℕ) → ℕ
 smallest set [] = 0
 smallest set (n ∷ ns) = cond (among set n) n (smallest set ns)
 
--- how many of the numbers are in a set
-unfoldable pub howMany : List ℕ → (ns : List ℕ) → ℕ
-howMany set [] = 0
-howMany set (n ∷ ns) = cond (among set n) (suc (howMany set ns)) (howMany set ns)
-
 -- "or a seat on the air last sent PTTS 1"
 unfoldable pub anySends : List Seat → List ℕ → (ns : List ℕ) → Bool
 anySends seats set [] = false
@@ -101,7 +97,7 @@ airOf setup seats ks =
       leads = map (among (leaders setup ks)) seatNumbers;
       id = smallest (leaders setup ks) seatNumbers;
       ptt = typeOf (topRank ks);
-      ptts = leb 2 (howMany (onAir setup ks) seatNumbers) || anySends seats (onAir setup ks) seatNumbers;
+      ptts = leb 2 (howMany (among (onAir setup ks)) seatNumbers) || anySends seats (onAir setup ks) seatNumbers;
     }
 
 -- What is shown of the air of a bench.

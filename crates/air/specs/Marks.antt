@@ -1,17 +1,25 @@
--- Who is on the air as the code finds it: the rank at each place of the order, and a set of seats as eight marks.
--- proofs/AirFound.antt shows that it is what Air says.
-use Prim.Native.Nat.{ℕ, suc, _+_, _-_, max}
-use mathlib.Core.Bool.{Bool, true, false, cond, _&&_, _||_}
+-- For proofs alone, what the private functions find: the rank of each seat, then at each place of the order, and a set of
+-- seats as eight marks. proofs/AirFound.antt shows that it is what Air says.
+use Prim.Native.Nat.{ℕ, _+_, _-_, max}
+use mathlib.Core.Bool.{Bool, true, false, cond, not, _&&_, _||_}
 use mathlib.Core.List.{List, [], _∷_, map, foldl}
 use lib.Dec.{eqb, ltb, leb}
-use lib.ListN.{getD, set}
-use Rattle.record.specs.Record.{seatNumbers, noSuchSeat, closedSeat, seatOf}
-use Rattle.air.specs.Air.{rank, couplingRank, takesPart, theFirst, among}
+use lib.ListN.{getD}
+use Rattle.base.specs.Lists.{howMany}
+use Rattle.record.specs.Record.{seatNumbers, noSuchSeat, closedSeat}
+use Rattle.air.specs.Air.{rank, couplingRank, theFirst, among}
 use Rattle.record.specs.declared.seat.Seat.{Seat}
 
--- The rank at which the seat of a number takes part, 0 if it takes none.
-unfoldable pub standing : (healthy : Bool) → List Seat → (n : ℕ) → ℕ
-standing healthy seats n = cond (takesPart healthy (seatOf seats n)) (rank (seatOf seats n .heard .field .ptt)) 0
+-- The rank at which a seat takes part, 0 if it takes none: also that of PTT off is 0.
+unfoldable pub standing : (healthy opened muted : Bool) → (ptt : ℕ) → ℕ
+standing healthy opened muted ptt = cond (healthy && opened && not muted) (rank ptt) 0
+
+abbrev pub standingOf : (healthy : Bool) → Seat → ℕ
+standingOf healthy s = standing healthy (s .opened) (s .heard .field .pm) (s .heard .field .ptt)
+
+-- The rank of the seat of a number; what is no seat's number has none.
+unfoldable pub rankOf : (standings : List ℕ) → (n : ℕ) → ℕ
+rankOf standings n = cond (noSuchSeat n) 0 (getD standings (n - 1) 0)
 
 unfoldable pub highest : (ranks : List ℕ) → ℕ
 highest [] = 0
@@ -32,38 +40,33 @@ firstAt r (n ∷ order) (k ∷ ranks) = cond (eqb k r) n (firstAt r order ranks)
 abbrev pub marksOf : List ℕ → List Bool
 marksOf ns = map (among ns) seatNumbers
 
-unfoldable pub mark : List Bool → ℕ → List Bool
-mark marks n = cond (noSuchSeat n) marks (set marks (n - 1) true)
+-- One seat more, if the test holds; the first mark is that of seat k.
+unfoldable pub markFrom : (k : ℕ) → (test : Bool) → List Bool → (n : ℕ) → List Bool
+markFrom k test [] n = []
+markFrom k test (m ∷ marks) n = (m || (test && eqb n k)) ∷ markFrom (k + 1) test marks n
+
+abbrev pub markIf : (test : Bool) → List Bool → (n : ℕ) → List Bool
+markIf test marks n = markFrom 1 test marks n
 
 unfoldable pub markAll : List Bool → List ℕ → List Bool
-markAll marks ns = foldl mark marks ns
+markAll marks ns = foldl (markIf true) marks ns
 
-abbrev pub markIf : Bool → List Bool → ℕ → List Bool
-markIf t marks n = cond t (mark marks n) marks
+unfoldable pub leadersAt : (equalSummation : Bool) → (top : ℕ) → (order ranks : List ℕ) → List ℕ
+leadersAt equalSummation top order ranks =
+    cond (eqb top 0) [] (cond equalSummation (seatsAt top order ranks) (theFirst (seatsAt top order ranks)))
 
-unfoldable pub leadersAt : (summation : Bool) → (top : ℕ) → (order ranks : List ℕ) → List ℕ
-leadersAt summation top order ranks =
-    cond (eqb top 0) [] (cond summation (seatsAt top order ranks) (theFirst (seatsAt top order ranks)))
-
-unfoldable pub addedAt : (coupling : Bool) → (top : ℕ) → (order ranks : List ℕ) → List ℕ
-addedAt coupling top order ranks = cond (coupling && ltb couplingRank top) (seatsAt couplingRank order ranks) []
+unfoldable pub addedAt : (couplingSummation : Bool) → (top : ℕ) → (order ranks : List ℕ) → List ℕ
+addedAt couplingSummation top order ranks = cond (couplingSummation && ltb couplingRank top) (seatsAt couplingRank order ranks) []
 
 -- The smallest number that is marked, the first mark being n's.
 unfoldable pub smallestFrom : (n : ℕ) → List Bool → ℕ
 smallestFrom n [] = 0
 smallestFrom n (m ∷ marks) = cond m n (smallestFrom (n + 1) marks)
 
-unfoldable pub marked : List Bool → ℕ
-marked [] = 0
-marked (m ∷ marks) = cond m (suc (marked marks)) (marked marks)
-
-abbrev pub sends : Bool → Seat → Bool
-sends m s = m && s .heard .field .ptts
-
 -- A marked seat last sent PTTS, the first mark being that of place i.
 unfoldable pub sendsFrom : (i : ℕ) → List Seat → List Bool → Bool
 sendsFrom i seats [] = false
-sendsFrom i seats (m ∷ marks) = sends m (getD seats i closedSeat) || sendsFrom (i + 1) seats marks
+sendsFrom i seats (m ∷ marks) = (m && getD seats i closedSeat .heard .field .ptts) || sendsFrom (i + 1) seats marks
 
 unfoldable pub pttsShown : List Seat → List Bool → Bool
-pttsShown seats on = leb 2 (marked on) || sendsFrom 0 seats on
+pttsShown seats on = leb 2 (howMany (λ m. m) on) || sendsFrom 0 seats on

@@ -2,9 +2,8 @@
 ghost use mathlib.Core.Path.{_≡_};
 ghost use Prim.Native.Nat.{max};
 ghost use mathlib.Core.List.{map};
-ghost use Rattle.air.specs.Air.{rank, typeOf, keyed, takesPart, benchAir};
-ghost use Rattle.air.specs.Marks.{standing, highest, seatsAt, firstAt, markAll, marksOf, leadersAt, addedAt, sends, sendsFrom, pttsShown};
-use crate::marks::mark;
+ghost use Rattle.air.specs.Air.{rank, typeOf, keyed, benchAir};
+ghost use Rattle.air.specs.Marks.{standing, standingOf, rankOf, highest, seatsAt, firstAt, markAll, marksOf, leadersAt, addedAt, sendsFrom, pttsShown};
 use crate::marks::mark_if;
 use crate::marks::marked;
 use crate::marks::smallest;
@@ -12,7 +11,7 @@ use record::Air;
 use record::Bench;
 use record::Field;
 use record::Seat;
-use record::seat_of;
+use record::no_such_seat;
 
 const COUPLING_RANK: u8 = 2;
 
@@ -52,37 +51,50 @@ pub fn keyed(f: Field) -> bool
     if f.pm { false } else { on }
 }
 
-fn takes_part(healthy: bool, s: Seat) -> bool
-    ensures { λ r. ⌜ r ≡ takesPart healthy s ⌝ }
+// The rank at which a seat takes part, 0 if it takes none: also that of PTT off is 0.
+fn standing(healthy: bool, opened: bool, muted: bool, ptt: u8) -> u8
+    ensures { λ r. ⌜ r ≡ standing healthy opened muted ptt ⌝ }
 {
-    if healthy {
-        if s.opened {
-            let heard = s.heard;
-            let field = heard.field;
-            return keyed(field);
-        }
+    if healthy & opened {
+        if muted { 0 } else { rank(ptt) }
+    } else {
+        0
     }
-    false
 }
 
-// The rank at which the seat of a number takes part, 0 if it takes none.
-fn standing(healthy: bool, seats: [Seat; 8], n: u8) -> u8
-    ensures { λ r. ⌜ r ≡ standing healthy seats n ⌝ }
+// The rank at which each seat takes part, by its place.
+fn standings(healthy: bool, seats: [Seat; 8]) -> [u8; 8]
+    ensures { λ r. ⌜ r ≡ map (standingOf healthy) seats ⌝ }
 {
-    let s = seat_of(seats, n);
-    if takes_part(healthy, s) {
-        return rank(s.heard.field.ptt);
+    let mut standings = [0u8; 8];
+    for i in 0..8 {
+        standings[i] = standing(
+            healthy,
+            seats[i].opened,
+            seats[i].heard.field.pm,
+            seats[i].heard.field.ptt,
+        );
     }
-    0
+    standings
+}
+
+// The rank of the seat of a number; what is no seat's number has none.
+fn rank_of(standings: [u8; 8], n: u8) -> u8
+    ensures { λ r. ⌜ r ≡ rankOf standings n ⌝ }
+{
+    if no_such_seat(n) {
+        return 0;
+    }
+    standings[(n - 1) as usize]
 }
 
 // The rank at each place of the order.
-fn ranks(healthy: bool, seats: [Seat; 8], order: [u8; 8]) -> [u8; 8]
-    ensures { λ r. ⌜ r ≡ map (standing healthy seats) order ⌝ }
+fn ranks(standings: [u8; 8], order: [u8; 8]) -> [u8; 8]
+    ensures { λ r. ⌜ r ≡ map (rankOf standings) order ⌝ }
 {
     let mut ranks = [0u8; 8];
     for i in 0..8 {
-        ranks[i] = standing(healthy, seats, order[i]);
+        ranks[i] = rank_of(standings, order[i]);
     }
     ranks
 }
@@ -128,31 +140,31 @@ fn mark_at(marks: [bool; 8], rank: u8, order: [u8; 8], ranks: [u8; 8]) -> [bool;
 }
 
 // Who is on the air at the top rank: by summation all of it, by lockout the first.
-fn leading(summation: bool, top: u8, order: [u8; 8], ranks: [u8; 8]) -> [bool; 8]
-    ensures { λ r. ⌜ r ≡ marksOf (leadersAt summation top order ranks) ⌝ }
+fn leading(equal_summation: bool, top: u8, order: [u8; 8], ranks: [u8; 8]) -> [bool; 8]
+    ensures { λ r. ⌜ r ≡ marksOf (leadersAt «equal_summation» top order ranks) ⌝ }
 {
     let nobody = [false; 8];
     if top == 0 {
         return nobody;
     }
-    if summation {
+    if equal_summation {
         return mark_at(nobody, top, order, ranks);
     }
     let first = first_at(top, order, ranks);
-    mark(nobody, first)
+    mark_if(true, nobody, first)
 }
 
 // With coupling summation the participants keyed Coupling are added when the top rank is above Coupling.
 fn with_added(
     leads: [bool; 8],
-    coupling: bool,
+    coupling_summation: bool,
     top: u8,
     order: [u8; 8],
     ranks: [u8; 8],
 ) -> [bool; 8]
-    ensures { λ r. ⌜ r ≡ markAll leads (addedAt coupling top order ranks) ⌝ }
+    ensures { λ r. ⌜ r ≡ markAll leads (addedAt «coupling_summation» top order ranks) ⌝ }
 {
-    if coupling {
+    if coupling_summation {
         if COUPLING_RANK < top {
             return mark_at(leads, COUPLING_RANK, order, ranks);
         }
@@ -161,18 +173,11 @@ fn with_added(
 }
 
 // A seat shows its PTTS only while it is on the air.
-fn sends(on: bool, s: Seat) -> bool
-    ensures { λ r. ⌜ r ≡ sends on s ⌝ }
-{
-    if on { s.heard.field.ptts } else { false }
-}
-
 fn any_sends(seats: [Seat; 8], on: [bool; 8]) -> bool
     ensures { λ r. ⌜ r ≡ sendsFrom 0 seats on ⌝ }
 {
     for i in 0..8 {
-        let s = seats[i];
-        if sends(on[i], s) {
+        if on[i] & seats[i].heard.field.ptts {
             return true;
         }
     }
@@ -193,13 +198,13 @@ fn ptts_shown(seats: [Seat; 8], on: [bool; 8]) -> bool
 pub fn bench_air(b: Bench) -> Air
     ensures { λ r. ⌜ r ≡ benchAir b ⌝ }
 {
-    let setup = b.setup;
     let seats = b.seats;
     let order = b.order;
-    let ranks = ranks(b.healthy, seats, order);
+    let standings = standings(b.healthy, seats);
+    let ranks = ranks(standings, order);
     let top = highest(ranks);
-    let leads = leading(setup.equal_summation, top, order, ranks);
-    let on = with_added(leads, setup.coupling_summation, top, order, ranks);
+    let leads = leading(b.setup.equal_summation, top, order, ranks);
+    let on = with_added(leads, b.setup.coupling_summation, top, order, ranks);
     Air {
         on,
         leads,

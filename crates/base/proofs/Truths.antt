@@ -2,6 +2,8 @@
 use Prim.Native.Nat.{ℕ, _≤_}
 use mathlib.Core.Path.{_≡_, refl}
 use mathlib.Core.Bool.{Bool, true, false, cond, _&&_, _||_}
+use lib.Dec.{lit≤}
+use Rattle.base.specs.Bytes.{bit}
 
 pub and-left : (a b : Bool) → a && b ≡ true → a ≡ true
 and-left true b e = refl
@@ -33,6 +35,9 @@ either-way false a = refl
 pub either-most : {k : ℕ} (t : Bool) (a b : ℕ) → a ≤ k → b ≤ k → cond t a b ≤ k
 either-most true a b h l = h
 either-most false a b h l = l
+
+pub bit-most : (b : Bool) → bit b ≤ 1
+bit-most b = either-most b 1 0 (lit≤ tt) (lit≤ tt)
 
 -- where one side of a test does not decide it, the other does
 pub and-rest : (a b : Bool) → a && b ≡ false → a ≡ true → b ≡ false

@@ -1,5 +1,6 @@
--- What the crates above share: tests, bytes, text, and the order of packets.
+-- What the crates above share: tests, bytes, lists, text, and the order of packets.
 pub mod Tests
 pub mod Bytes
+pub mod Lists
 pub mod Text
 pub mod Order

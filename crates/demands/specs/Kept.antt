@@ -1,12 +1,13 @@
 -- What every bench has at the start and keeps through every call, accepted or refused.
-use Prim.Native.Nat.{ℕ, _+_, _*_, _≤_, _<_}
+use Prim.Native.Nat.{ℕ, _*_, _≤_, _<_}
 use mathlib.Core.Path.{_≡_}
 use mathlib.Core.Bool.{Bool, true, false, _||_}
 use mathlib.Core.List.{List, [], _∷_}
 use mathlib.Core.Logic.{_⊎_}
 use lib.Dec.{eqb}
 use lib.ListN.{length, getD}
-use Rattle.base.specs.Bytes.{Bytes, bit}
+use Rattle.base.specs.Bytes.{Bytes}
+use Rattle.base.specs.Lists.{howMany}
 use Rattle.packet.specs.Packet.{off, coupling, test}
 use Rattle.record.specs.Record.{seatNumbers, nothingHeard, closedSeat, freshBench, seatOf, lesson}
 use Rattle.seats.specs.Opening.{mayKey, isCoupling, shortest, longest, fewest, most, holdsCoupling, ownId}
@@ -59,11 +60,6 @@ pub record SeatKept (setup : Setup) (n : ℕ) (s : Seat) : Type 0 where
   pub heard-ssrc-fits : s .heard .ssrc < 4294967296
   pub ssrc-fits : s .ssrc < 4294967296
 
--- how often a number stands in a list
-unfoldable pub count : ℕ → List ℕ → ℕ
-count n [] = 0
-count n (m ∷ ms) = bit (eqb m n) + count n ms
-
 pub record Kept (b : Bench) : Type 0 where
   -- "a ground radio with eight seats"
   pub eight-seats : length (b .seats) ≡ 8
@@ -71,7 +67,7 @@ pub record Kept (b : Bench) : Type 0 where
   pub sequences-fit : (i : ℕ) → getD (b .sequences) i 0 < 65536
   -- the order is a permutation of the seats: each stands in it once, and nothing else does
   pub order-of-eight : length (b .order) ≡ 8
-  pub order-counts : (n : ℕ) → count n (b .order) ≡ count n seatNumbers
+  pub order-counts : (n : ℕ) → howMany (λ m. eqb m n) (b .order) ≡ howMany (λ m. eqb m n) seatNumbers
   pub each-seat : (n : ℕ) → SeatKept (b .setup) n (seatOf (b .seats) n)
   -- not "Coupling asked while another seat is Coupling"
   pub one-coupling : (m n : ℕ) → holdsCoupling (seatOf (b .seats) m) ≡ true → holdsCoupling (seatOf (b .seats) n) ≡ true → m ≡ n

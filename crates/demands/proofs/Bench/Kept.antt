@@ -7,6 +7,7 @@ use native.Mathlib.Omega.{arith}
 use lib.Dec.{eqb}
 use lib.ListN.{length, getD, set, length-set}
 use borrow.Author.Tests.{eqb-true}
+use Rattle.base.specs.Lists.{howMany}
 use Rattle.base.proofs.Places.{set-cases, all-alike}
 use Rattle.packet.specs.Refusals.{NoCase}
 use Rattle.packet.specs.declared.message.Tx.{Tx}
@@ -21,7 +22,7 @@ use Rattle.record.specs.declared.seat.Seat.{Seat}
 use Rattle.record.specs.declared.whole.Bench.{Bench}
 use Rattle.demands.specs.ExactCalls.{refusalsOf}
 use Rattle.demands.specs.SeatAfter.{seatAfter}
-use Rattle.demands.specs.Kept.{SeatKept, count, Kept, InRange, AllInRange, KeptThroughout}
+use Rattle.demands.specs.Kept.{SeatKept, Kept, InRange, AllInRange, KeptThroughout}
 use Rattle.demands.proofs.Demand1.Calls.{benchAfter, after-call}
 use Rattle.seats.proofs.TickingLaws.{ticked-cases}
 use Rattle.seats.proofs.Accepted.{open-accepted, side-accepted}
@@ -30,7 +31,7 @@ use Rattle.bench.proofs.Accepted.{packet-accepted}
 use Rattle.record.proofs.Seats.{seat-of-eight-closed}
 use Rattle.seats.proofs.OpeningLaws.{none-coupling}
 use Rattle.demands.proofs.Bench.SeatAfter.{same-setup, as-many-seats, seat-made}
-use Rattle.demands.proofs.Bench.Order.{count-order-after, length-order-after}
+use Rattle.demands.proofs.Bench.Order.{many-order-after, length-order-after}
 use Rattle.demands.proofs.Bench.KeptSeats.{closed-seat-kept, opened-seat-kept, heard-seat-kept, ticked-seat-kept}
 
 pub kept-fresh : (setup : Setup) → Kept (freshBench setup)
@@ -85,9 +86,9 @@ module _ (b : Bench) (kept : Kept b) where
 
   -- ---- the order
 
-  order-kept : (c : Call) → (length (benchAfter b c .order) ≡ length (b .order)) × ((n : ℕ) → count n (benchAfter b c .order) ≡ count n (b .order))
+  order-kept : (c : Call) → (length (benchAfter b c .order) ≡ length (b .order)) × ((test : ℕ → Bool) → howMany test (benchAfter b c .order) ≡ howMany test (b .order))
   unfolding openedBench closedBench heardBench tickedBench reportedBench
-  order-kept (packet n p) = (length-order-after n _ _ (b .order), count-order-after n _ _ (b .order))
+  order-kept (packet n p) = (length-order-after n _ _ (b .order), many-order-after n _ _ (b .order))
   order-kept (opening n r) = (refl, λ m. refl)
   order-kept (closing n) = (refl, λ m. refl)
   order-kept (tick ms) = (refl, λ m. refl)
@@ -174,7 +175,7 @@ module _ (b : Bench) (kept : Kept b) where
         eight-sequences = sequences-kept c fits .0;
         sequences-fit = sequences-kept c fits .1;
         order-of-eight = order-kept c .0 ∙ kept .order-of-eight;
-        order-counts = λ n. order-kept c .1 n ∙ kept .order-counts n;
+        order-counts = λ n. order-kept c .1 (λ m. eqb m n) ∙ kept .order-counts n;
         each-seat = λ n. subst₂ (λ (setup : Setup) (s : Seat). SeatKept setup n s) (sym (same-setup b c)) (sym (seat n)) (seat-kept c fits none n);
         one-coupling = λ m n e f. coupling-kept c none m n (sym (ap holdsCoupling (seat m)) ∙ e) (sym (ap holdsCoupling (seat n)) ∙ f);
         single-on-main = λ e. main-kept c fits none (sym (ap (λ (setup : Setup). setup .pair) (same-setup b c)) ∙ e);

@@ -17,7 +17,7 @@ use Rattle.packet.specs.declared.message.Direction.the-variants.{Tx, Rx}
 use Rattle.packet.specs.declared.message.Message.{Message}
 use Rattle.demands.specs.RoundTrip.{Narrow, WrittenAtFront}
 use Rattle.demands.proofs.Demand2.Numbers.{FieldSays, field-says}
-use Rattle.base.proofs.Truths.{and-left, and-right}
+use Rattle.base.proofs.Truths.{and-left, and-right, bit-most}
 use Rattle.packet.proofs.Judged.{meets-none}
 use Rattle.writer.proofs.Words.{item-bytes-length, at-most-three}
 use Rattle.demands.proofs.Demand2.Parts.{HasParts, has-parts}
@@ -45,10 +45,6 @@ writable-is m n e =
 
 -- ---- the field
 
-bit-least : (b : Bool) → bit b ≤ 1
-bit-least true = omega arith
-bit-least false = omega arith
-
 pub bit-set : (b : Bool) → isSet (bit b) ≡ b
 bit-set true = refl
 bit-set false = refl
@@ -60,7 +56,7 @@ SaysOf f m is = FieldSays f (m .ptt) (bit (m .squ)) (m .id) (bit (m .pm)) (bit (
 pub field-written : (m : Message) (is : List Item) → m .ptt ≤ 5 → m .id ≤ 63 → SaysOf (fieldOf m is) m is
 field-written m is hp hi =
     field-says (m .ptt) (bit (m .squ)) (m .id) (bit (m .pm)) (bit (m .ptts)) (bit (m .sct)) (bit (someItem is))
-    hp (bit-least (m .squ)) hi (bit-least (m .pm)) (bit-least (m .ptts)) (bit-least (m .sct)) (bit-least (someItem is))
+    hp (bit-most (m .squ)) hi (bit-most (m .pm)) (bit-most (m .ptts)) (bit-most (m .sct)) (bit-most (someItem is))
 
 pub allowed-in-tx : (f : ℕ) (m : Message) (is : List Item) → SaysOf f m is → m .ptt ≤ 5 → m .squ ≡ false → m .sct ≡ false
     → fieldAllowed Tx f ≡ true

@@ -1,5 +1,6 @@
 -- Demand 3's exceptions, computed.
 use mathlib.Core.Path.{refl}
+use Rattle.base.specs.Lists.{howMany}
 use Rattle.base.specs.Order.{centred, distance, late, missing}
 use Rattle.packet.specs.Packet.{payload, payloadAllowed, fieldAllowed, afterField}
 use Rattle.packet.specs.Items.{allZero, itemsIn, itemAllowed, allAllowed, hasType, noTypeTwice, runAllowed, itemsAllowed, itemsOf, sqiAmong, climaxAmong, sideAmong, kept}
@@ -8,7 +9,7 @@ use Rattle.reader.specs.Reading.{readerRefusals, messageWith, messageOf}
 use Rattle.writer.specs.Writing.{risingItems, itemBytes, wordsOf, headOf, encode}
 use Rattle.record.specs.Record.{openedSeat, freshBench, seatOf, lesson}
 use Rattle.seats.specs.Opening.{anyCoupling, openRefusals, openSaid, openedBench, seatRefusals}
-use Rattle.air.specs.Air.{takesPart, keyingsOf, keyings, topRank, atRank, leaders, added, onAir, among, smallest, howMany, anySends, airOf, benchAir}
+use Rattle.air.specs.Air.{takesPart, keyingsOf, keyings, topRank, atRank, leaders, added, onAir, among, smallest, anySends, airOf, benchAir}
 use Rattle.bench.specs.Hearing.{fieldHeard, keyingBarred, idAllowed, sideBarred, messageRefusals, packetRefusals, heardSeat, takesEffect, sideAfter, heardBench, sameField, isSent, hearing, packetSaid, audioIn}
 use Rattle.air.specs.Order.{begins, toLast, orderAfter}
 use Rattle.bench.specs.Reporting.{reportOf, reportBytes, reportRefusals, reportSaid, reportedBench}

@@ -15,17 +15,14 @@ abbrev μ-loop : tie.MeasureT-loop
 loop-holds : tie.Need-loop-holds Inv-loop μ-loop
 loop-holds c = search rules
 
-mul-s : tie.Need-mul-s Inv-loop μ-loop
-mul-s c = search rules
+array-read-if1 : tie.Need-array-read-if1 Inv-loop μ-loop
+array-read-if1 c = search rules
 
-array-copy-out-s : tie.Need-array-copy-out-s Inv-loop μ-loop
-array-copy-out-s c = search rules
+mul-if1 : tie.Need-mul-if1 Inv-loop μ-loop
+mul-if1 c = search rules
 
-array-read-sends : tie.Need-array-read-sends Inv-loop μ-loop
-array-read-sends c = search rules
-
-sends-requires : tie.Need-sends-requires Inv-loop μ-loop
-sends-requires c κs = search rules
+element-copy-out-if1 : tie.Need-element-copy-out-if1 Inv-loop μ-loop
+element-copy-out-if1 c = search rules
 
 returns : tie.Need-returns Inv-loop μ-loop
 returns c = search rules
@@ -49,10 +46,9 @@ any-sends-spec =
     Inv-loop
     μ-loop
     loop-holds
-    mul-s
-    array-copy-out-s
-    array-read-sends
-    sends-requires
+    array-read-if1
+    mul-if1
+    element-copy-out-if1
     returns
     add-i
     loop-less

@@ -3,6 +3,9 @@ use borrow.Author.Needs.{needs}
 use Rattle.air.proofs.air.bench_air.Statement.{statement}
 use Rattle.air.proofs.air.bench_air.Tie as tie
 
+standings-requires : tie.Need-standings-requires
+standings-requires c κs = search needs
+
 ranks-requires : tie.Need-ranks-requires
 ranks-requires c κs = search needs
 
@@ -31,6 +34,7 @@ pub bench-air-spec : {M : Type 1} → statement M
 bench-air-spec =
     tie.close
     (tie.spec
+    standings-requires
     ranks-requires
     highest-requires
     leading-requires

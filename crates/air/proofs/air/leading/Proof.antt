@@ -15,8 +15,8 @@ returns-2 c = search rules
 first-at-requires : tie.Need-first-at-requires
 first-at-requires c κs = search needs
 
-mark-requires : tie.Need-mark-requires
-mark-requires c κs = search needs
+mark-if-requires : tie.Need-mark-if-requires
+mark-if-requires c κs = search needs
 
 returns-3 : tie.Need-returns-3
 returns-3 c = search rules
@@ -24,4 +24,4 @@ returns-3 c = search rules
 pub leading-spec : {M : Type 1} → statement M
 leading-spec =
     tie.close
-    (tie.spec returns mark-at-requires returns-2 first-at-requires mark-requires returns-3)
+    (tie.spec returns mark-at-requires returns-2 first-at-requires mark-if-requires returns-3)

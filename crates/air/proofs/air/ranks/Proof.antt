@@ -1,25 +1,25 @@
 use Prim.Native.Nat.{_-_}
 use mathlib.Core.Path.{_≡_}
 use Rattle.base.proofs.Loops.{filledTo}
-use Rattle.air.specs.Marks.{standing}
+use Rattle.air.specs.Marks.{rankOf}
 use Rattle.air.proofs.AirLaws.{rules}
 use Rattle.air.proofs.air.ranks.Statement.{statement}
 use Rattle.air.proofs.air.ranks.Tie as tie
 
 abbrev Inv-loop : tie.InvT-loop
-Inv-loop healthy seats order ranks₀ i₀ ranks i = ranks ≡ filledTo (standing healthy seats) i order ranks₀
+Inv-loop standings order ranks₀ i₀ ranks i = ranks ≡ filledTo (rankOf standings) i order ranks₀
 
 abbrev μ-loop : tie.MeasureT-loop
-μ-loop healthy seats order ranks₀ i₀ ranks i = 8 - i
+μ-loop standings order ranks₀ i₀ ranks i = 8 - i
 
 loop-holds : tie.Need-loop-holds Inv-loop μ-loop
 loop-holds c = search rules
 
-array-read-standing : tie.Need-array-read-standing Inv-loop μ-loop
-array-read-standing c = search rules
+array-read-rank-of : tie.Need-array-read-rank-of Inv-loop μ-loop
+array-read-rank-of c = search rules
 
-standing-requires : tie.Need-standing-requires Inv-loop μ-loop
-standing-requires c κs = search rules
+rank-of-requires : tie.Need-rank-of-requires Inv-loop μ-loop
+rank-of-requires c κs = search rules
 
 array-write-ranks : tie.Need-array-write-ranks Inv-loop μ-loop
 array-write-ranks c = search rules
@@ -43,8 +43,8 @@ ranks-spec =
     Inv-loop
     μ-loop
     loop-holds
-    array-read-standing
-    standing-requires
+    array-read-rank-of
+    rank-of-requires
     array-write-ranks
     add-i
     loop-less

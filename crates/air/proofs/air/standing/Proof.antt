@@ -3,12 +3,6 @@ use borrow.Author.Needs.{needs}
 use Rattle.air.proofs.air.standing.Statement.{statement}
 use Rattle.air.proofs.air.standing.Tie as tie
 
-seat-of-requires : tie.Need-seat-of-requires
-seat-of-requires c κs = search needs
-
-takes-part-requires : tie.Need-takes-part-requires
-takes-part-requires c κs = search needs
-
 rank-requires : tie.Need-rank-requires
 rank-requires c κs = search needs
 
@@ -18,6 +12,8 @@ returns c = search rules
 returns-2 : tie.Need-returns-2
 returns-2 c = search rules
 
+returns-3 : tie.Need-returns-3
+returns-3 c = search rules
+
 pub standing-spec : {M : Type 1} → statement M
-standing-spec =
-    tie.close (tie.spec seat-of-requires takes-part-requires rank-requires returns returns-2)
+standing-spec = tie.close (tie.spec rank-requires returns returns-2 returns-3)
