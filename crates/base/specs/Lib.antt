@@ -1,4 +1,3 @@
--- What the crates above share: tests, bytes, and the order of packets.
-pub mod Tests
+-- What the crates above share: bytes, and the order of packets.
 pub mod Bytes
 pub mod Order

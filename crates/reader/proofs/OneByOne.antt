@@ -6,7 +6,7 @@ use mathlib.Core.List.{List, [], _∷_, foldl}
 use lib.Dec.{eqb}
 use Rattle.base.proofs.Truths.{push, either-way}
 use borrow.Author.Tests.{eqb-true}
-use Rattle.packet.specs.Items.{Item, Found, found, broken, behind, allZero, itemType, itemLength, itemsIn, quality, method, sqiAllowed, climaxAllowed, sideAllowed, inTx, inRx, itemAllowed}
+use Rattle.packet.specs.Items.{Item, Found, found, broken, behind, allZero, itemType, itemLength, itemsIn, sqiQuality, sqiMethod, sqiAllowed, climaxAllowed, sideAllowed, inTx, inRx, itemAllowed}
 use Rattle.reader.specs.Scan.{sqiFree, climaxFree, sideFree, scanAt, beginOf, withSqi, withClimax, withSide, takeSqi, takeClimax, takeSide, stepOf, endOf}
 use Rattle.packet.specs.declared.message.Direction.{Direction}
 use Rattle.packet.specs.declared.message.Direction.the-variants.{Tx, Rx}
@@ -144,8 +144,8 @@ module _ (d : Direction) (k : Items) (v : ℕ) (rest : List ℕ) where
   unfolding itemAllowed takeSqi takeClimax takeSide
   item-is false t w = broken-stays d k rest
   item-is true t one =
-      entered (sqiFree d (k .sqi)) (sqiAllowed (quality v) (method v)) (scanAt Sqi k) (withSqi k v) (after-value (sqiAllowed (quality v) (method v)) (withSqi k v))
-      ∙ sqi-fits d (k .sqi) (sqiAllowed (quality v) (method v)) _ _
+      entered (sqiFree d (k .sqi)) (sqiAllowed (sqiQuality v) (sqiMethod v)) (scanAt Sqi k) (withSqi k v) (after-value (sqiAllowed (sqiQuality v) (sqiMethod v)) (withSqi k v))
+      ∙ sqi-fits d (k .sqi) (sqiAllowed (sqiQuality v) (sqiMethod v)) _ _
   item-is true t two =
       entered (climaxFree d (k .climax)) (climaxAllowed v) (scanAt Climax k) (withClimax k v) (after-value (climaxAllowed v) (withClimax k v))
       ∙ climax-fits d (k .climax) (climaxAllowed v) _ _

@@ -1,10 +1,10 @@
 -- What the reader does with one byte after another. (The scan's promises cite these. What the items mean stands in
--- Items.antt, and `itemsRead` is that meaning; proofs/Meaning.antt shows that the scan finds it.)
+-- packet/specs/Items.antt, and `itemsRead` is that meaning; proofs/Meaning.antt shows that the scan finds it.)
 use Prim.Native.Nat.{ℕ}
 use mathlib.Core.Bool.{Bool, true, false, cond, not}
 use mathlib.Core.List.{List, foldl}
 use lib.Dec.{eqb}
-use Rattle.packet.specs.Items.{itemType, itemLength, sqiType, climaxType, sideType, quality, method, sqiAllowed, delay, climaxAllowed, sideAllowed, sideOf, itemsAllowed, itemsOf, kept}
+use Rattle.packet.specs.Items.{itemType, itemLength, sqiType, climaxType, sideType, sqiQuality, sqiMethod, sqiAllowed, climaxDelay, climaxAllowed, sideAllowed, sideOf, itemsAllowed, itemsOf, kept}
 use Rattle.packet.specs.declared.message.Direction.{Direction}
 use Rattle.packet.specs.declared.message.Direction.the-variants.{Tx, Rx}
 use Rattle.packet.specs.declared.message.SqiItem.{SqiItem}
@@ -48,16 +48,16 @@ beginOf d k b =
     (scanAt Broken k))))
 
 abbrev pub withSqi : Items → ℕ → Items
-withSqi k b = record { sqi = sqi.Is (quality b) (method b); climax = k .climax; side = k .side }
+withSqi k b = record { sqi = sqi.Is (sqiQuality b) (sqiMethod b); climax = k .climax; side = k .side }
 
 abbrev pub withClimax : Items → ℕ → Items
-withClimax k b = record { sqi = k .sqi; climax = climax.Is (delay b); side = k .side }
+withClimax k b = record { sqi = k .sqi; climax = climax.Is (climaxDelay b); side = k .side }
 
 abbrev pub withSide : Items → ℕ → Items
 withSide k b = record { sqi = k .sqi; climax = k .climax; side = sideOf b }
 
 unfoldable pub takeSqi : Items → ℕ → Scan
-takeSqi k b = cond (sqiAllowed (quality b) (method b)) (scanAt Next (withSqi k b)) (scanAt Broken k)
+takeSqi k b = cond (sqiAllowed (sqiQuality b) (sqiMethod b)) (scanAt Next (withSqi k b)) (scanAt Broken k)
 
 unfoldable pub takeClimax : Items → ℕ → Scan
 takeClimax k b = cond (climaxAllowed b) (scanAt Next (withClimax k b)) (scanAt Broken k)

@@ -1,5 +1,5 @@
 // The items, read byte by byte: what the bytes after the first two hold.
-// specs/Items.antt has the meaning, specs/Scan.antt what one byte does; proofs/Meaning.antt shows that they agree.
+// packet/specs/Items.antt has the meaning, specs/Scan.antt what one byte does; proofs/Meaning.antt shows that they agree.
 ghost use mathlib.Core.Path.{_≡_};
 ghost use Rattle.reader.specs.Scan.{sqiFree, climaxFree, sideFree, scanAt, beginOf, takeSqi, takeClimax, takeSide, zerosOf, stepOf, scanOf, startOf, endOf, itemsRead};
 use packet::ClimaxItem;
@@ -85,8 +85,8 @@ fn begin(d: Direction, items: Items, b: u8) -> Scan
     let sqi = items.sqi;
     let climax = items.climax;
     let side = items.side;
-    let length = b % 16;
-    if length != 1 {
+    let item_length = b % 16;
+    if item_length != 1 {
         return at(Mode::Broken, items);
     }
     let kind = b / 16 % 16;

@@ -1,5 +1,5 @@
 use borrow.Author.Tests.{lt-ltb, le-ltb, eq-eqb, ne-eqb}
-use Rattle.base.specs.Tests.{tests}
+use Rattle.base.proofs.Tests.{tests}
 use Rattle.reader.specs.Reading.{readerRefusals}
 use Rattle.reader.specs.Pieces.{extensionVerdict}
 use borrow.Author.Needs.{needs}

@@ -1,4 +1,4 @@
-use Rattle.base.specs.Tests.{tests}
+use Rattle.base.proofs.Tests.{tests}
 use Rattle.reader.specs.Reading.{readerRefusals}
 use Rattle.reader.specs.Pieces.{headVerdict}
 use borrow.Author.Needs.{needs}

@@ -1,4 +1,4 @@
-use Rattle.base.specs.Tests.{tests}
+use Rattle.base.proofs.Tests.{tests}
 use borrow.Author.Needs.{needs}
 use Rattle.reader.proofs.items.step.Statement.{statement}
 use Rattle.reader.proofs.items.step.Tie as tie

@@ -1,5 +1,5 @@
 use Rattle.reader.specs.Scan.{takeSide}
-use Rattle.base.specs.Tests.{tests}
+use Rattle.base.proofs.Tests.{tests}
 use borrow.Author.Needs.{needs}
 use Rattle.reader.proofs.items.take_side.Statement.{statement}
 use Rattle.reader.proofs.items.take_side.Tie as tie
