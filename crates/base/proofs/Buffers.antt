@@ -10,8 +10,8 @@ use borrow.Author.Tests.{leb-true, leb-false}
 use borrow.Rule.Slice.PartMut.{putMid}
 use lib.Dec.{leb}
 use lib.ListN.{length, set, take, drop, length-append, length-take, length-drop, drop-of-length-le}
-use lib.Seq.{sets, take-all, drop-nil, take-length, take-append-le, take-append-add, take-at, drop-at, drop-drop, take-take, take-append-seam}
-use Rattle.base.specs.Bytes.{overlaid, padded}
+use lib.Seq.{sets, take-all, drop-nil, take-length, take-append-le, take-append-add, take-at, drop-at, drop-drop}
+use Rattle.base.specs.Bytes.{overlaid}
 use Rattle.base.proofs.Parts.{part-to-end}
 
 pub overlaid-nothing : (P : List ℕ) → overlaid P [] ≡ []
@@ -72,10 +72,6 @@ module _ (P Q l : List ℕ) where
   overlaid-then {l₁} {v} {k} e d f =
       let none : length (drop k l₁) ≤ length l₁ - k = simp length-drop (omega arith) in
       rw (drop-of-length-le (drop k l₁) none, append-nil, f, part-to-end, d) (by-room-behind k e (leb (length P) (length l)) refl)
-
--- bytes with zeros behind them, without the zeros
-pub unpadded : (P : List ℕ) (n : ℕ) → length P ≤ n → take (length P) (padded n P) ≡ P
-unpadded P n h = rw (take-take, take-append-seam)
 
 -- bytes stored from a place on, then others behind them
 pub sets-append : (l a b : List ℕ) (i : ℕ) → sets l i (a ++ b) ≡ sets (sets l i a) (i + length a) b

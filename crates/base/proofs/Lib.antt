@@ -1,3 +1,4 @@
+pub mod Tests
 pub mod Truths
 pub mod Places
 pub mod Parts

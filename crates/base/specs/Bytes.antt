@@ -2,7 +2,7 @@
 use Prim.Native.Nat.{ℕ, _+_, _*_, _-_, _/_, _%_, _^_, _<_}
 use mathlib.Core.Bool.{Bool, cond}
 use mathlib.Core.List.{List, [], _∷_, _++_}
-use lib.ListN.{length, getD, take, drop, replicate}
+use lib.ListN.{length, getD, take, drop}
 use lib.Dec.{eqb}
 use mathlib.Core.Path.{_≡_}
 use denote.Ref.{RefT}
@@ -38,7 +38,7 @@ placed width first count value = value * 2 ^ (width - first - count)
 
 -- a bit that is 1
 abbrev pub isSet : ℕ → Bool
-isSet bit = eqb bit 1
+isSet n = eqb n 1
 
 -- the bytes from one place up to another; what lies past the end is left out
 abbrev pub partOf : ℕ → ℕ → List ℕ → List ℕ
@@ -59,7 +59,3 @@ Bytes s = (i : ℕ) → byteAt s i < 256
 -- a buffer with bytes laid over its front: as many as there is room for, and every byte behind them as it was
 unfoldable pub overlaid : (bytes buffer : List ℕ) → List ℕ
 overlaid bytes buffer = take (length buffer) bytes ++ drop (length bytes) buffer
-
--- bytes with zeros behind them, up to a length
-abbrev pub padded : ℕ → List ℕ → List ℕ
-padded n bytes = take n (bytes ++ replicate n 0)

@@ -1,5 +1,4 @@
--- What the crates above share: tests, bytes, lists, text, and the order of packets.
-pub mod Tests
+-- What the crates above share: bytes, lists, text, and the order of packets.
 pub mod Bytes
 pub mod Lists
 pub mod Text

@@ -1,5 +1,5 @@
 // Bytes and numbers, for every crate above: total helpers, which ask nothing of their callers.
-// Start at specs/Bytes.antt, which says what a number in a slice is; specs/Tests.antt has the set that answers most proofs.
+// Start at specs/Bytes.antt, which says what a number in a slice is; proofs/Tests.antt has the set that answers most proofs.
 // order.rt has the order of packets, said in specs/Order.antt.
 ghost use mathlib.Core.Path.{_≡_};
 ghost use Prim.Native.Nat.{_+_, _*_, min};

@@ -8,7 +8,7 @@ use borrow.Author.Tests.{ltb-false, not-false}
 use Rattle.base.specs.Order.{otherSsrc, late}
 use Rattle.packet.specs.Packet.{field}
 use Rattle.packet.specs.Refusals.{NoCase}
-use Rattle.reader.specs.Reading.{readerRefusals, messageOf, messageWith}
+use Rattle.reader.specs.Reading.{readerRefusals, messageOf, itemsHere}
 use Rattle.packet.specs.declared.message.Direction.the-variants as direction
 use Rattle.packet.proofs.Judged.{none-of-both}
 use Rattle.reader.proofs.Passed.{Passed, passed, field-passed}
@@ -65,5 +65,5 @@ report-accepted b n timestamp sound room none =
 
 -- "6 and 7 are reserved and refused"
 pub type-known : (ext : ℕ) (p : List ℕ) → Passed direction.Tx ext p → messageIn p .ptt ≤ 5
-unfolding messageOf messageWith
+unfolding messageOf itemsHere
 type-known ext p read = field-passed direction.Tx (field p) (read .field-allowed) .type-known

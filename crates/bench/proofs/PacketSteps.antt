@@ -9,7 +9,7 @@ use lib.ListN.{length}
 use Rattle.base.specs.Bytes.{partOf}
 use Rattle.base.specs.Order.{missing}
 use Rattle.packet.specs.Packet.{payload, payloadAt}
-use Rattle.packet.specs.Refusals.{Case, NoCase, Answer, accepted, refusal, verdictOf, judged, mapped, andThen}
+use Rattle.packet.specs.Refusals.{Case, NoCase, Answer, accepted, refusal, verdictOf, judged, mapped}
 use Rattle.reader.specs.Reading.{readerRefusals, messageOf, asTx, read, readTx, txAnswer}
 use Rattle.packet.specs.declared.message.Direction.the-variants as direction
 use Rattle.packet.specs.declared.message.Tx.{Tx}
@@ -18,7 +18,7 @@ use Rattle.packet.specs.declared.refusal.Verdict.{Verdict}
 use Rattle.packet.specs.declared.refusal.Verdict.the-variants.{Fine, Refused}
 use Rattle.reader.specs.declared.reading.TxRead.{TxRead}
 use Rattle.reader.specs.declared.reading.TxRead.the-variants as tx
-use Rattle.packet.proofs.Judged.{judged-mapped, by-verdict, meets-none, judged-split}
+use Rattle.packet.proofs.Judged.{andThen, judged-mapped, by-verdict, meets-none, judged-split}
 use Rattle.reader.proofs.Passed.{Passed, length-most}
 use Rattle.record.specs.Record.{seatOf}
 use Rattle.seats.specs.Opening.{seatRefusals, seatVerdict}

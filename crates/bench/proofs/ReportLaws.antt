@@ -11,14 +11,14 @@ use lib.ListN.{length, getD}
 use Rattle.base.proofs.Truths.{either-most, or-left}
 use Rattle.packet.specs.Packet.{audioLength}
 use Rattle.packet.specs.Quality.{quality}
-use Rattle.packet.specs.Refusals.{_if_, Answer, accepted, refused, refusal, verdictOf, judged, andThen}
+use Rattle.packet.specs.Refusals.{_if_, Answer, accepted, refused, refusal, verdictOf, judged}
 use Rattle.writer.specs.Writing.{fromRx, encode, sqiWritable, writable, writerRefusals, write, filled, buffered}
 use Rattle.packet.specs.declared.message.SqiItem.the-variants as sqi
 use Rattle.packet.specs.declared.refusal.Refusal.{Refusal}
 use Rattle.packet.specs.declared.refusal.Verdict.{Verdict}
 use Rattle.packet.specs.declared.refusal.Verdict.the-variants.{Fine, Refused}
 use Rattle.packet.proofs.QualityLaws.{quality-most}
-use Rattle.packet.proofs.Judged.{meets-none, judged-split}
+use Rattle.packet.proofs.Judged.{andThen, meets-none, judged-split}
 use Rattle.record.specs.Record.{noSuchSeat, seatOf}
 use Rattle.seats.specs.Opening.{seatRefusals, seatVerdict}
 use Rattle.air.specs.Air.{benchAir}

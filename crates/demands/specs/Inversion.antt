@@ -8,11 +8,10 @@ use Rattle.base.specs.Bytes.{Bytes, bytes8, bytes16, bytes32, placed, partOf}
 use Rattle.packet.specs.Packet.{headLength, extensionAt, wordCount, payloadType, payload}
 use Rattle.packet.specs.Items.{Item}
 use Rattle.packet.specs.Refusals.{accepted}
-use Rattle.reader.specs.Reading.{read}
+use Rattle.reader.specs.Reading.{itemsHere, read}
 use Rattle.writer.specs.Writing.{fieldOf, itemBytes}
 use Rattle.packet.specs.declared.message.Direction.{Direction}
 use Rattle.packet.specs.declared.message.Message.{Message}
-use Rattle.demands.specs.Plain.{itemsHere}
 
 -- The packet of 01, written out from its parts.
 unfoldable pub laid : (csrc : List ℕ) (kind ext words : ℕ) → Message → List Item → (payload : List ℕ) → List ℕ

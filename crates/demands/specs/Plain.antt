@@ -2,12 +2,10 @@
 use Prim.Native.Nat.{ℕ, _<_}
 use mathlib.Core.Path.{_≡_}
 use mathlib.Core.List.{List, [], _∷_}
-use Rattle.packet.specs.Packet.{csrcCount, wordCount, field, x, afterField}
-use Rattle.packet.specs.Items.{Item, itemsOf}
+use Rattle.packet.specs.Packet.{csrcCount, wordCount}
+use Rattle.packet.specs.Items.{Item}
+use Rattle.reader.specs.Reading.{itemsHere}
 use Rattle.writer.specs.Writing.{fewestWords}
-
-unfoldable pub itemsHere : List ℕ → List Item
-itemsHere p = itemsOf (x (field p)) (afterField p)
 
 abbrev pub Rising : List Item → Type 0
 Rising [] = Unit {0}

@@ -4,7 +4,7 @@ use mathlib.Core.Path.{_≡_, refl, sym}
 use mathlib.Core.Bool.{Bool, true, false, cond}
 use mathlib.Core.List.{List, [], _∷_, _++_}
 use native.Mathlib.Omega.{arith}
-use Rattle.packet.specs.Refusals.{Case, NoCase, Answer, accepted, refused, causeOf, judged, mapped, andThen}
+use Rattle.packet.specs.Refusals.{Case, NoCase, Answer, accepted, refused, causeOf, judged, mapped}
 
 -- no answer is both
 pub never : {A : Type 0} (a : A) (n c : ℕ) → accepted a ≡ refused n c → ⊥
@@ -43,6 +43,11 @@ pub meets-none : {A : Type 0} (cs : List Case) (a b : A) → judged cs a ≡ acc
 meets-none cs a b = judged-one (λ x. x ≡ accepted b → NoCase cs × (a ≡ b)) cs a (λ n c e. absurd (never b n c (sym e))) (λ none e. (none, cc))
 
 -- ---- a list of cases in two pieces
+
+-- what comes after tests that were passed
+abbrev pub andThen : {A : Type 0} → Answer (Unit {0}) → Answer A → Answer A
+andThen (accepted u) a = a
+andThen (refused n c) a = refused n c
 
 pub judged-split : {A : Type 0} (cs ds : List Case) (a : A) → judged (cs ++ ds) a ≡ andThen (judged cs tt) (judged ds a)
 judged-split [] ds a = refl

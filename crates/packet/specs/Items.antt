@@ -58,21 +58,21 @@ sideType = 5
 
 -- "1 SQI | RX | quality in the high 5 bits; method in the low 3: 0 RSSI, 1 AGC, 2 C/N, 3 PSD.
 -- With RSSI quality is 0 to 15, else 0 to 31"
-abbrev pub quality : ℕ → ℕ
-quality value = bits 8 0 5 value
+abbrev pub sqiQuality : ℕ → ℕ
+sqiQuality value = bits 8 0 5 value
 
-abbrev pub method : ℕ → ℕ
-method value = bits 8 5 3 value
+abbrev pub sqiMethod : ℕ → ℕ
+sqiMethod value = bits 8 5 3 value
 
 abbrev pub rssi : ℕ
 rssi = 0
 
 abbrev pub sqiAllowed : (quality method : ℕ) → Bool
-sqiAllowed q m = leb m 3 && leb q (cond (eqb m rssi) 15 31)
+sqiAllowed quality method = leb method 3 && leb quality (cond (eqb method rssi) 15 31)
 
 -- "2 CLIMAX | TX | high bit 1; low 7 bits the delay in ms divided by 2"
-abbrev pub delay : ℕ → ℕ
-delay value = bits 8 1 7 value
+abbrev pub climaxDelay : ℕ → ℕ
+climaxDelay value = bits 8 1 7 value
 
 abbrev pub climaxAllowed : ℕ → Bool
 climaxAllowed value = eqb (bits 8 0 1 value) 1
@@ -94,7 +94,7 @@ inRx d = not (inTx d)
 -- The table of items. "Every other type is refused, type 4 (DDC) too, as 000 gives no layout for it."
 unfoldable pub itemAllowed : Direction → Item → Bool
 itemAllowed d i =
-    (eqb (i .type) sqiType && inRx d && sqiAllowed (quality (i .value)) (method (i .value)))
+    (eqb (i .type) sqiType && inRx d && sqiAllowed (sqiQuality (i .value)) (sqiMethod (i .value)))
     || (eqb (i .type) climaxType && inTx d && climaxAllowed (i .value))
     || (eqb (i .type) sideType && sideAllowed (i .value))
 
@@ -127,18 +127,18 @@ abbrev pub listed : Found → List Item
 listed (found is) = is
 listed broken = []
 
--- The items of a packet, in the order in which they stand.
+-- The items that the bytes hold under X, in the order in which they stand.
 unfoldable pub itemsOf : (x : ℕ) → List ℕ → List Item
 itemsOf x bytes = cond (eqb x 0) [] (listed (itemsIn bytes))
 
 -- What a message keeps of them.
 unfoldable pub sqiAmong : List Item → SqiItem
 sqiAmong [] = sqi.Absent
-sqiAmong (i ∷ is) = cond (eqb (i .type) sqiType) (sqi.Is (quality (i .value)) (method (i .value))) (sqiAmong is)
+sqiAmong (i ∷ is) = cond (eqb (i .type) sqiType) (sqi.Is (sqiQuality (i .value)) (sqiMethod (i .value))) (sqiAmong is)
 
 unfoldable pub climaxAmong : List Item → ClimaxItem
 climaxAmong [] = climax.Absent
-climaxAmong (i ∷ is) = cond (eqb (i .type) climaxType) (climax.Is (delay (i .value))) (climaxAmong is)
+climaxAmong (i ∷ is) = cond (eqb (i .type) climaxType) (climax.Is (climaxDelay (i .value))) (climaxAmong is)
 
 unfoldable pub sideAmong : List Item → SideItem
 sideAmong [] = side.Absent

@@ -28,11 +28,11 @@ marker p = bits 8 0 1 (byteAt p 1)
 abbrev pub payloadType : List ℕ → ℕ
 payloadType p = bits 8 1 7 (byteAt p 1)
 
-abbrev pub audio : ℕ
-audio = 8
+abbrev pub audioType : ℕ
+audioType = 8
 
-abbrev pub r2s : ℕ
-r2s = 123
+abbrev pub r2sType : ℕ
+r2sType = 123
 
 -- "Then sequence (2 bytes), timestamp (4), SSRC (4), CC words of CSRC, which are skipped."
 abbrev pub headLength : ℕ
@@ -70,8 +70,8 @@ payload p = drop (payloadAt p) p
 abbrev pub audioLength : ℕ → Bool
 audioLength n = eqb n 80 || eqb n 160 || eqb n 240
 
-unfoldable pub payloadAllowed : (kind length : ℕ) → Bool
-payloadAllowed kind n = cond (eqb kind audio) (audioLength n) (eqb n 0)
+unfoldable pub payloadAllowed : (type bytes : ℕ) → Bool
+payloadAllowed type bytes = cond (eqb type audioType) (audioLength bytes) (eqb bytes 0)
 
 -- "First two bytes of the words: PTT type 3 bits, SQU 1, ptt-id 6, PM 1, PTTS 1, then in TX three reserved bits,
 -- in RX SCT and two reserved bits, then X."

@@ -68,11 +68,6 @@ abbrev pub mapped : {A B : Type 0} → (A → B) → Answer A → Answer B
 mapped f (accepted a) = accepted (f a)
 mapped f (refused n c) = refused n c
 
--- What comes after tests that were passed.
-abbrev pub andThen : {A : Type 0} → Answer (Unit {0}) → Answer A → Answer A
-andThen (accepted u) a = a
-andThen (refused n c) a = refused n c
-
 -- A refusal of the code, as 01 writes it.
 abbrev pub refusal : {A : Type 0} → Refusal → Answer A
 refusal r = refused (numberOf r) (causeOf (numberOf r))

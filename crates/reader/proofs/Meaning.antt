@@ -7,9 +7,9 @@ use lib.Dec.{eqb}
 use Rattle.base.proofs.Truths.{push, either-way}
 use borrow.Author.Tests.{eqb-true}
 use Rattle.packet.specs.Items.{Item, Found, found, broken, behind, allZero, itemType, itemLength, itemsIn, someItem, runAllowed, itemsAllowed, itemsOf, listed, sqiAmong, climaxAmong, sideAmong, kept}
-use Rattle.reader.specs.Scan.{scanAt, beginOf, scanOf, noItems, startOf, endOf, itemsRead}
+use Rattle.reader.specs.Scan.{scanAt, takeItem, scanOf, noItems, startIn, endOf, itemsRead}
 use Rattle.packet.specs.declared.message.Direction.{Direction}
-use Rattle.reader.specs.declared.items.Mode.the-variants.{Tail, First}
+use Rattle.reader.specs.declared.items.Mode.the-variants.{Tail, First, Value}
 use Rattle.reader.specs.declared.items.ItemsRead.the-variants as read
 use Rattle.reader.proofs.OneByOne.{led, broken-stays, tail-is, item, outcome, next-is}
 use Rattle.reader.proofs.Taken.{run-is}
@@ -44,27 +44,31 @@ zero-run d (v ∷ rest) = push (runAllowed d) (allZero (v ∷ rest)) (found []) 
 
 first-is : (d : Direction) (bs : List ℕ)
     → led d (scanAt First noItems) bs ≡ cond (runAllowed d (itemsIn bs)) (read.Items (kept (listed (itemsIn bs)))) read.Broken
-unfolding itemsIn runAllowed beginOf
+unfolding itemsIn runAllowed takeItem
 first-is d [] = refl
 first-is d (b ∷ bs) = by-zero (eqb b 0) refl
   where
+    zero-breaks : (vs : List ℕ) → led d (scanAt (Value 0) noItems) vs ≡ read.Broken
+    zero-breaks [] = refl
+    zero-breaks (v ∷ rest) = broken-stays d noItems rest
+
     by-zero : (t : Bool) → eqb b 0 ≡ t
-        → led d (beginOf d noItems b) bs ≡ cond (runAllowed d (itemsIn (b ∷ bs))) (read.Items (kept (listed (itemsIn (b ∷ bs))))) read.Broken
+        → led d (scanAt (Value b) noItems) bs ≡ cond (runAllowed d (itemsIn (b ∷ bs))) (read.Items (kept (listed (itemsIn (b ∷ bs))))) read.Broken
     by-zero true e =
-        subst (λ (c : ℕ). led d (beginOf d noItems c) bs ≡ cond (runAllowed d (itemsIn (c ∷ bs))) (read.Items (kept (listed (itemsIn (c ∷ bs))))) read.Broken)
+        subst (λ (c : ℕ). led d (scanAt (Value c) noItems) bs ≡ cond (runAllowed d (itemsIn (c ∷ bs))) (read.Items (kept (listed (itemsIn (c ∷ bs))))) read.Broken)
         (sym (eqb-true b 0 e))
-        (broken-stays d noItems bs ∙ ap (λ (t : Bool). cond t (read.Items (kept (listed (itemsIn (0 ∷ bs))))) read.Broken) (sym (zero-run d bs)))
+        (zero-breaks bs ∙ ap (λ (t : Bool). cond t (read.Items (kept (listed (itemsIn (0 ∷ bs))))) read.Broken) (sym (zero-run d bs)))
     by-zero false e =
-        ap (λ (t : Bool). led d (cond t (scanAt Tail noItems) (beginOf d noItems b)) bs) (sym e)
+        ap (λ (t : Bool). led d (scanAt (cond t Tail (Value b)) noItems) bs) (sym e)
         ∙ next-is d (b ∷ bs) noItems
         ∙ outcome-is d (itemsIn (b ∷ bs)) (starts b bs e)
 
 -- the scan's answer is 01's
-pub scan-is : (d : Direction) (x : ℕ) (bytes : List ℕ) → endOf (scanOf d (startOf x) bytes) ≡ itemsRead d x bytes
+pub scan-is : (d : Direction) (x : ℕ) (bytes : List ℕ) → endOf (scanOf d (scanAt (startIn x) noItems) bytes) ≡ itemsRead d x bytes
 unfolding scanOf itemsRead itemsAllowed itemsOf kept sqiAmong climaxAmong sideAmong
 scan-is d x bytes = by-x (eqb x 0)
   where
-    by-x : (t : Bool) → led d (cond t (scanAt Tail noItems) (scanAt First noItems)) bytes
+    by-x : (t : Bool) → led d (scanAt (cond t Tail First) noItems) bytes
         ≡ cond (cond t (allZero bytes) (runAllowed d (itemsIn bytes))) (read.Items (kept (cond t [] (listed (itemsIn bytes))))) read.Broken
     by-x true = tail-is d noItems bytes
     by-x false = first-is d bytes

@@ -6,8 +6,8 @@ use mathlib.Core.List.{List, [], _∷_, foldl}
 use lib.Dec.{eqb}
 use Rattle.base.proofs.Truths.{push, either-way}
 use borrow.Author.Tests.{eqb-true}
-use Rattle.packet.specs.Items.{Item, Found, found, broken, behind, allZero, itemType, itemLength, itemsIn, quality, method, sqiAllowed, climaxAllowed, sideAllowed, inTx, inRx, itemAllowed}
-use Rattle.reader.specs.Scan.{sqiFree, climaxFree, sideFree, scanAt, beginOf, withSqi, withClimax, withSide, takeSqi, takeClimax, takeSide, stepOf, endOf}
+use Rattle.packet.specs.Items.{Item, Found, found, broken, behind, allZero, itemType, itemLength, itemsIn, sqiQuality, sqiMethod, sqiAllowed, climaxAllowed, sideAllowed, inTx, inRx, itemAllowed}
+use Rattle.reader.specs.Scan.{sqiFree, climaxFree, sideFree, scanAt, withSqi, withClimax, withSide, takeSqi, takeClimax, takeSide, takeItem, stepOf, endOf}
 use Rattle.packet.specs.declared.message.Direction.{Direction}
 use Rattle.packet.specs.declared.message.Direction.the-variants.{Tx, Rx}
 use Rattle.packet.specs.declared.message.SqiItem.{SqiItem}
@@ -17,7 +17,7 @@ use Rattle.packet.specs.declared.message.ClimaxItem.the-variants as climax
 use Rattle.packet.specs.declared.message.SideItem.{SideItem}
 use Rattle.packet.specs.declared.message.SideItem.the-variants as side
 use Rattle.packet.specs.declared.message.Items.{Items}
-use Rattle.reader.specs.declared.items.Mode.the-variants.{Tail, Next, Sqi, Climax, Side, Broken}
+use Rattle.reader.specs.declared.items.Mode.the-variants.{Tail, Next, Value, Broken}
 use Rattle.reader.specs.declared.items.Scan.{Scan}
 use Rattle.reader.specs.declared.items.ItemsRead.{ItemsRead}
 use Rattle.reader.specs.declared.items.ItemsRead.the-variants as read
@@ -37,7 +37,7 @@ tail-is d k [] = refl
 tail-is d k (b ∷ bs) = by-test (eqb b 0) (tail-is d k bs)
   where
     by-test : (t : Bool) → led d (scanAt Tail k) bs ≡ cond (allZero bs) (read.Items k) read.Broken
-        → led d (cond t (scanAt Tail k) (scanAt Broken k)) bs ≡ cond (t && allZero bs) (read.Items k) read.Broken
+        → led d (scanAt (cond t Tail Broken) k) bs ≡ cond (t && allZero bs) (read.Items k) read.Broken
     by-test true h = h
     by-test false h = broken-stays d k bs
 
@@ -91,7 +91,7 @@ abbrev pub item : ℕ → ℕ → Item
 item t v = record { type = t; value = v }
 
 sqi-fits : {R : Type 0} (d : Direction) (i : SqiItem) (a : Bool) (g b : R)
-    → cond (sqiFree d i) (cond a g b) b ≡ cond (((inRx d && a) || false || false) && not (sqiThere i || false || false)) g b
+    → cond (sqiFree d i && a) g b ≡ cond (((inRx d && a) || false || false) && not (sqiThere i || false || false)) g b
 sqi-fits Tx i a g b = refl
 sqi-fits Rx sqi.Absent true g b = refl
 sqi-fits Rx sqi.Absent false g b = refl
@@ -99,14 +99,14 @@ sqi-fits Rx (sqi.Is q m) true g b = refl
 sqi-fits Rx (sqi.Is q m) false g b = refl
 
 climax-fits : {R : Type 0} (d : Direction) (i : ClimaxItem) (a : Bool) (g b : R)
-    → cond (climaxFree d i) (cond a g b) b ≡ cond (((inTx d && a) || false) && not (climaxThere i || false)) g b
+    → cond (climaxFree d i && a) g b ≡ cond (((inTx d && a) || false) && not (climaxThere i || false)) g b
 climax-fits Rx i a g b = refl
 climax-fits Tx climax.Absent true g b = refl
 climax-fits Tx climax.Absent false g b = refl
 climax-fits Tx (climax.Is v) true g b = refl
 climax-fits Tx (climax.Is v) false g b = refl
 
-side-fits : {R : Type 0} (i : SideItem) (a : Bool) (g b : R) → cond (sideFree i) (cond a g b) b ≡ cond (a && not (sideThere i)) g b
+side-fits : {R : Type 0} (i : SideItem) (a : Bool) (g b : R) → cond (sideFree i && a) g b ≡ cond (a && not (sideThere i)) g b
 side-fits side.Absent true g b = refl
 side-fits side.Absent false g b = refl
 side-fits side.Main true g b = refl
@@ -115,9 +115,6 @@ side-fits side.Standby true g b = refl
 side-fits side.Standby false g b = refl
 
 module _ (d : Direction) (k : Items) (v : ℕ) (rest : List ℕ) where
-  abbrev valued : Scan → ItemsRead
-  valued s = led d (stepOf d s v) rest
-
   abbrev further : Items → ItemsRead
   further j = led d (scanAt Next j) rest
 
@@ -126,32 +123,19 @@ module _ (d : Direction) (k : Items) (v : ℕ) (rest : List ℕ) where
   after-value true j = refl
   after-value false j = broken-stays d k rest
 
-  -- a mode that was entered or not, and the value byte
-  entered : (f a : Bool) (s : Scan) (j : Items) → valued s ≡ cond a (further j) read.Broken
-      → valued (cond f s (scanAt Broken k)) ≡ cond f (cond a (further j) read.Broken) read.Broken
-  entered true a s j h = h
-  entered false a s j h = broken-stays d k rest
-
-  abbrev begun : Bool → ℕ → Scan
-  begun l t =
+  abbrev took : Bool → ℕ → Scan
+  took l t =
       cond (not l) (scanAt Broken k)
-      (cond (eqb t 1) (cond (sqiFree d (k .sqi)) (scanAt Sqi k) (scanAt Broken k))
-      (cond (eqb t 2) (cond (climaxFree d (k .climax)) (scanAt Climax k) (scanAt Broken k))
-      (cond (eqb t 5) (cond (sideFree (k .side)) (scanAt Side k) (scanAt Broken k))
-      (scanAt Broken k))))
+      (cond (eqb t 1) (takeSqi d k v) (cond (eqb t 2) (takeClimax d k v) (cond (eqb t 5) (takeSide k v) (scanAt Broken k))))
 
-  item-is : (l : Bool) (t : ℕ) → Kind t → valued (begun l t) ≡ cond (l && fits d k (item t v)) (further (plus k (item t v))) read.Broken
+  item-is : (l : Bool) (t : ℕ) → Kind t → led d (took l t) rest ≡ cond (l && fits d k (item t v)) (further (plus k (item t v))) read.Broken
   unfolding itemAllowed takeSqi takeClimax takeSide
   item-is false t w = broken-stays d k rest
   item-is true t one =
-      entered (sqiFree d (k .sqi)) (sqiAllowed (quality v) (method v)) (scanAt Sqi k) (withSqi k v) (after-value (sqiAllowed (quality v) (method v)) (withSqi k v))
-      ∙ sqi-fits d (k .sqi) (sqiAllowed (quality v) (method v)) _ _
-  item-is true t two =
-      entered (climaxFree d (k .climax)) (climaxAllowed v) (scanAt Climax k) (withClimax k v) (after-value (climaxAllowed v) (withClimax k v))
-      ∙ climax-fits d (k .climax) (climaxAllowed v) _ _
-  item-is true t five =
-      entered (sideFree (k .side)) (sideAllowed v) (scanAt Side k) (withSide k v) (after-value (sideAllowed v) (withSide k v))
-      ∙ side-fits (k .side) (sideAllowed v) _ _
+      after-value (sqiFree d (k .sqi) && sqiAllowed (sqiQuality v) (sqiMethod v)) (withSqi k v)
+      ∙ sqi-fits d (k .sqi) (sqiAllowed (sqiQuality v) (sqiMethod v)) _ _
+  item-is true t two = after-value (climaxFree d (k .climax) && climaxAllowed v) (withClimax k v) ∙ climax-fits d (k .climax) (climaxAllowed v) _ _
+  item-is true t five = after-value (sideFree (k .side) && sideAllowed v) (withSide k v) ∙ side-fits (k .side) (sideAllowed v) _ _
   item-is true t (other p q r) = simp (p, q, r) (broken-stays d k rest)
 
 -- ---- a run of items, taken one by one
@@ -169,22 +153,14 @@ outcome-behind : (d : Direction) (k : Items) (i : Item) (f : Found)
 outcome-behind d k i (found is) = refl
 outcome-behind d k i broken = sym (either-way (fits d k i) read.Broken)
 
--- bytes that end behind an item's first byte
-begun-ends : (d : Direction) (k : Items) (l : Bool) (t : ℕ) → Kind t → endOf (begun d k 0 [] l t) ≡ read.Broken
-begun-ends d k false t w = refl
-begun-ends d k true t one = push endOf (sqiFree d (k .sqi)) (scanAt Sqi k) (scanAt Broken k) ∙ either-way (sqiFree d (k .sqi)) read.Broken
-begun-ends d k true t two = push endOf (climaxFree d (k .climax)) (scanAt Climax k) (scanAt Broken k) ∙ either-way (climaxFree d (k .climax)) read.Broken
-begun-ends d k true t five = push endOf (sideFree (k .side)) (scanAt Side k) (scanAt Broken k) ∙ either-way (sideFree (k .side)) read.Broken
-begun-ends d k true t (other p q r) = simp (p, q, r)
-
 pub next-is : (d : Direction) (bs : List ℕ) (k : Items) → led d (scanAt Next k) bs ≡ outcome d k (itemsIn bs)
-unfolding itemsIn beginOf
+unfolding itemsIn takeItem
 next-is d [] k = refl
 next-is d (b ∷ []) k = by-zero (eqb b 0)
   where
-    by-zero : (t : Bool) → endOf (cond t (scanAt Tail k) (beginOf d k b)) ≡ outcome d k (cond t (found []) broken)
+    by-zero : (t : Bool) → endOf (scanAt (cond t Tail (Value b)) k) ≡ outcome d k (cond t (found []) broken)
     by-zero true = refl
-    by-zero false = begun-ends d k (eqb (itemLength b) 1) (itemType b) (kind (itemType b))
+    by-zero false = refl
 next-is d (b ∷ v ∷ rest) k = by-zero (eqb b 0) (next-is d rest (plus k (item (itemType b) v)))
   where
     by-length : (l : Bool) → cond (l && fits d k (item (itemType b) v)) (outcome d (plus k (item (itemType b) v)) (itemsIn rest)) read.Broken
@@ -193,7 +169,7 @@ next-is d (b ∷ v ∷ rest) k = by-zero (eqb b 0) (next-is d rest (plus k (item
     by-length false = refl
 
     by-zero : (t : Bool) → led d (scanAt Next (plus k (item (itemType b) v))) rest ≡ outcome d (plus k (item (itemType b) v)) (itemsIn rest)
-        → led d (stepOf d (cond t (scanAt Tail k) (beginOf d k b)) v) rest
+        → led d (stepOf d (scanAt (cond t Tail (Value b)) k) v) rest
         ≡ outcome d k (cond t (cond (allZero (v ∷ rest)) (found []) broken) (cond (eqb (itemLength b) 1) (behind (item (itemType b) v) (itemsIn rest)) broken))
     by-zero true h = tail-is d k (v ∷ rest) ∙ sym (push (outcome d k) (allZero (v ∷ rest)) (found []) broken)
     by-zero false h =

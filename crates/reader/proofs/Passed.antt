@@ -9,7 +9,7 @@ use lib.ListN.{length, length-drop}
 use borrow.Author.Tests.{ltb-false, leb-true, eqb-true, eqb-false, not-false}
 use Rattle.base.specs.Bytes.{byteAt, isSet}
 use Rattle.base.proofs.Truths.{and-left, and-right, or-left, or-right}
-use Rattle.packet.specs.Packet.{version, padding, extension, marker, extensionType, wordCount, wordsAt, payloadAt, payloadType, audio, r2s, audioLength, payload, field, pttType, squAllowed, reserved, x, fieldAllowed, payloadAllowed, afterField}
+use Rattle.packet.specs.Packet.{version, padding, extension, marker, extensionType, wordCount, wordsAt, payloadAt, payloadType, audioType, r2sType, audioLength, payload, field, pttType, squAllowed, reserved, x, fieldAllowed, payloadAllowed, afterField}
 use Rattle.packet.specs.Items.{itemsAllowed}
 use Rattle.packet.specs.Refusals.{NoCase, accepted}
 use Rattle.reader.specs.Reading.{readerRefusals, messageOf, read}
@@ -23,7 +23,7 @@ pub record Passed (d : Direction) (ext : ℕ) (p : List ℕ) : Type 0 where
   pub no-padding : padding p ≡ 0
   pub no-marker : marker p ≡ 0
   pub extended : extension p ≡ 1
-  pub known-kind : (eqb (payloadType p) audio || eqb (payloadType p) r2s) ≡ true
+  pub known-kind : (eqb (payloadType p) audioType || eqb (payloadType p) r2sType) ≡ true
   pub words-begin : wordsAt p ≤ length p
   pub type-is : extensionType p ≡ ext
   pub some-word : 1 ≤ wordCount p

@@ -6,7 +6,7 @@ use mathlib.Core.List.{List, [], _∷_}
 use lib.Dec.{eqb}
 use Rattle.base.specs.Bytes.{bits}
 use Rattle.base.proofs.Truths.{push, either-way, or-left}
-use Rattle.packet.specs.Items.{Item, quality, method, delay, sideOf, itemAllowed, allAllowed, hasType, noTypeTwice, sqiAmong, climaxAmong, sideAmong, kept}
+use Rattle.packet.specs.Items.{Item, sqiQuality, sqiMethod, climaxDelay, sideOf, itemAllowed, allAllowed, hasType, noTypeTwice, sqiAmong, climaxAmong, sideAmong, kept}
 use Rattle.reader.specs.Scan.{withSqi, withClimax, withSide, noItems}
 use Rattle.packet.specs.declared.message.Direction.{Direction}
 use Rattle.packet.specs.declared.message.SqiItem.{SqiItem}
@@ -141,14 +141,14 @@ module _ (d : Direction) (k : Items) (v : ℕ) (is : List Item) where
       (merged k (item 1 v ∷ is)) (merged (withSqi k v) is)
       (λ e. fresh-more 1 k (withSqi k v) (λ u. has-sqi (eqb u 1) (sqiThere (k .sqi)) (eqb u 2 && climaxThere (k .climax)) (eqb u 5 && sideThere (k .side))) is)
       (λ e. ap (λ (i : SqiItem). record { sqi = i; climax = orClimax (k .climax) (climaxAmong is); side = orSide (k .side) (sideAmong is) })
-      (sqi-new (k .sqi) (quality v) (method v) (or-left (sqiThere (k .sqi)) false (or-left (sqiThere (k .sqi) || false) false e)))))
+      (sqi-new (k .sqi) (sqiQuality v) (sqiMethod v) (or-left (sqiThere (k .sqi)) false (or-left (sqiThere (k .sqi) || false) false e)))))
   cons-is t two h =
       simp h
       (in-front (itemAllowed d (item 2 v)) (has k 2) (allAllowed d is) (noTypeTwice is) (hasType 2 is) (fresh k is) (fresh (withClimax k v) is)
       (merged k (item 2 v ∷ is)) (merged (withClimax k v) is)
       (λ e. fresh-more 2 k (withClimax k v) (λ u. has-climax (eqb u 2) (climaxThere (k .climax)) (eqb u 1 && sqiThere (k .sqi)) (eqb u 5 && sideThere (k .side))) is)
       (λ e. ap (λ (i : ClimaxItem). record { sqi = orSqi (k .sqi) (sqiAmong is); climax = i; side = orSide (k .side) (sideAmong is) })
-      (climax-new (k .climax) (delay v) (or-left (climaxThere (k .climax)) false e))))
+      (climax-new (k .climax) (climaxDelay v) (or-left (climaxThere (k .climax)) false e))))
   cons-is t five h =
       simp h
       (in-front (itemAllowed d (item 5 v)) (has k 5) (allAllowed d is) (noTypeTwice is) (hasType 5 is) (fresh k is) (fresh (withSide k v) is)

@@ -2,14 +2,11 @@
 use Prim.Native.Nat.{ℕ}
 use mathlib.Core.List.{List}
 use lib.ListN.{take, drop}
-use Rattle.packet.specs.Refusals.{Answer, accepted, refused, refusal, causeOf, judged}
-use Rattle.reader.specs.Reading.{readerRefusals, messageOf, messageWith}
+use Rattle.packet.specs.Refusals.{Answer, accepted, refusal, judged}
+use Rattle.reader.specs.Reading.{readerRefusals, messageOf}
 use Rattle.packet.specs.declared.message.Direction.{Direction}
 use Rattle.packet.specs.declared.message.Direction.the-variants.{Tx}
-use Rattle.packet.specs.declared.message.Items.{Items}
 use Rattle.packet.specs.declared.message.Message.{Message}
-use Rattle.reader.specs.declared.items.ItemsRead.{ItemsRead}
-use Rattle.reader.specs.declared.items.ItemsRead.the-variants as items
 use Rattle.reader.specs.declared.reading.AnyRead.{AnyRead}
 use Rattle.reader.specs.declared.reading.AnyRead.the-variants as code
 
@@ -25,13 +22,13 @@ extensionVerdict ext p = judged (take 4 (drop 5 (readerRefusals Tx ext p))) tt
 unfoldable pub contentAnswer : Direction → List ℕ → Answer Message
 contentAnswer d p = judged (drop 9 (readerRefusals d 0 p)) (messageOf p)
 
--- 12, once the items are known
-unfoldable pub payloadAnswer : List ℕ → Items → Answer Message
-payloadAnswer p k = judged (drop 11 (readerRefusals Tx 0 p)) (messageWith p k)
+-- 11 and 12, of the items and the payload
+unfoldable pub itemsAnswer : Direction → List ℕ → Answer Message
+itemsAnswer d p = judged (drop 10 (readerRefusals d 0 p)) (messageOf p)
 
-unfoldable pub itemsAnswer : List ℕ → ItemsRead → Answer Message
-itemsAnswer p (items.Items k) = payloadAnswer p k
-itemsAnswer p items.Broken = refused 11 (causeOf 11)
+-- 12, of the payload
+unfoldable pub payloadAnswer : List ℕ → Answer Message
+payloadAnswer p = judged (drop 11 (readerRefusals Tx 0 p)) (messageOf p)
 
 abbrev pub readAnswer : AnyRead → Answer Message
 readAnswer (code.Message m) = accepted m

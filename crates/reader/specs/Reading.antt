@@ -6,11 +6,10 @@ use lib.ListN.{length}
 use lib.Dec.{ltb, eqb}
 use Rattle.base.specs.Bytes.{isSet}
 use Rattle.packet.specs.Refusals.{Case, _if_, Answer, accepted, refusal, judged, mapped}
-use Rattle.packet.specs.Packet.{version, padding, marker, extension, payloadType, audio, r2s, headLength, sequence, timestamp, ssrc, wordsAt, extensionType, wordCount, payloadAt, payload, payloadAllowed, field, fieldAllowed, pttType, squ, pttId, pm, ptts, sct, x, afterField}
-use Rattle.packet.specs.Items.{itemsAllowed, itemsOf, kept}
+use Rattle.packet.specs.Packet.{version, padding, marker, extension, payloadType, audioType, r2sType, headLength, sequence, timestamp, ssrc, wordsAt, extensionType, wordCount, payloadAt, payload, payloadAllowed, field, fieldAllowed, pttType, squ, pttId, pm, ptts, sct, x, afterField}
+use Rattle.packet.specs.Items.{Item, itemsAllowed, itemsOf, kept}
 use Rattle.packet.specs.declared.message.Direction.{Direction}
 use Rattle.packet.specs.declared.message.Direction.the-variants as direction
-use Rattle.packet.specs.declared.message.Items.{Items}
 use Rattle.packet.specs.declared.message.Message.{Message}
 use Rattle.packet.specs.declared.message.Tx.{Tx}
 use Rattle.packet.specs.declared.message.Rx.{Rx}
@@ -26,7 +25,7 @@ readerRefusals d ext p =
     ∷ 2 if not (eqb (version p) 2)
     ∷ 3 if (isSet (padding p) || isSet (marker p))
     ∷ 4 if not (isSet (extension p))
-    ∷ 5 if not (eqb (payloadType p) audio || eqb (payloadType p) r2s)
+    ∷ 5 if not (eqb (payloadType p) audioType || eqb (payloadType p) r2sType)
     ∷ 6 if ltb (length p) (wordsAt p)
     ∷ 7 if not (eqb (extensionType p) ext)
     ∷ 8 if (eqb (wordCount p) 0 || ltb 15 (wordCount p))
@@ -36,9 +35,13 @@ readerRefusals d ext p =
     ∷ 12 if not (payloadAllowed (payloadType p) (length (payload p)))
     ∷ []
 
--- What the bytes say, of either direction, with the items that they hold.
-unfoldable pub messageWith : List ℕ → Items → Message
-messageWith p items =
+-- "Items follow.": those of a packet, in the order in which they stand.
+unfoldable pub itemsHere : List ℕ → List Item
+itemsHere p = itemsOf (x (field p)) (afterField p)
+
+-- What the bytes say, of either direction.
+unfoldable pub messageOf : List ℕ → Message
+messageOf p =
     record {
       sequence = sequence p;
       timestamp = timestamp p;
@@ -49,11 +52,8 @@ messageWith p items =
       pm = isSet (pm (field p));
       ptts = isSet (ptts (field p));
       sct = isSet (sct (field p));
-      items = items;
+      items = kept (itemsHere p);
     }
-
-unfoldable pub messageOf : List ℕ → Message
-messageOf p = messageWith p (kept (itemsOf (x (field p)) (afterField p)))
 
 unfoldable pub read : Direction → (ext : ℕ) → List ℕ → Answer Message
 read d ext p = judged (readerRefusals d ext p) (messageOf p)

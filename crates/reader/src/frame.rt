@@ -21,12 +21,8 @@ pub fn head_verdict(p: &[u8]) -> Verdict
     if version != 2 {
         return Verdict::Refused(Refusal::WrongVersion);
     }
-    let padding = b0 / 32 % 2;
-    if padding == 1 {
-        return Verdict::Refused(Refusal::PaddingOrMarker);
-    }
-    let marker = b1 / 128 % 2;
-    if marker == 1 {
+    let padding_or_marker = (b0 / 32 % 2 == 1) | (b1 / 128 % 2 == 1);
+    if padding_or_marker {
         return Verdict::Refused(Refusal::PaddingOrMarker);
     }
     let extension = b0 / 16 % 2;
@@ -34,13 +30,12 @@ pub fn head_verdict(p: &[u8]) -> Verdict
         return Verdict::Refused(Refusal::NoExtension);
     }
     let kind = b1 % 128;
-    if kind == 8 {
-        return Verdict::Fine;
+    let known = (kind == 8) | (kind == 123);
+    if known {
+        Verdict::Fine
+    } else {
+        Verdict::Refused(Refusal::PayloadType)
     }
-    if kind == 123 {
-        return Verdict::Fine;
-    }
-    Verdict::Refused(Refusal::PayloadType)
 }
 
 // 8 for audio, 123 for R2S.
@@ -103,10 +98,8 @@ pub fn extension_verdict(ext: u16, p: &[u8]) -> Verdict
         return Verdict::Refused(Refusal::ExtensionType);
     }
     let count = word_count(p);
-    if count == 0 {
-        return Verdict::Refused(Refusal::WordCount);
-    }
-    if 15 < count {
+    let barred = (count == 0) | (15 < count);
+    if barred {
         return Verdict::Refused(Refusal::WordCount);
     }
     let end = words + 4 * (count as usize);

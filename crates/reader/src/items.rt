@@ -1,7 +1,8 @@
 // The items, read byte by byte: what the bytes after the first two hold.
-// specs/Items.antt has the meaning, specs/Scan.antt what one byte does; proofs/Meaning.antt shows that they agree.
+// packet/specs/Items.antt has the meaning, specs/Scan.antt what one byte does; proofs/Meaning.antt shows that they agree.
 ghost use mathlib.Core.Path.{_≡_};
-ghost use Rattle.reader.specs.Scan.{sqiFree, climaxFree, sideFree, scanAt, beginOf, takeSqi, takeClimax, takeSide, zerosOf, stepOf, scanOf, startOf, endOf, itemsRead};
+ghost use Rattle.packet.specs.Items.{sideOf};
+ghost use Rattle.reader.specs.Scan.{sqiFree, climaxFree, sideFree, scanAt, takeSqi, takeClimax, takeSide, takeItem, inZeros, behindItem, stepOf, scanOf, startIn, mayEnd, endOf, itemsRead};
 use packet::ClimaxItem;
 use packet::Direction;
 use packet::Items;
@@ -9,15 +10,13 @@ use packet::SideItem;
 use packet::SqiItem;
 use packet::sqi_allowed;
 
-// Where the scan stands: in the zeros at the end, before the first item, before a further one, before the value
-// of an item that has begun, or past a broken rule.
+// Where the scan stands: in the zeros at the end, before the first item, before a further one, between an item's first
+// byte, which it holds, and its value, or past a broken rule.
 pub enum Mode {
     Tail,
     First,
     Next,
-    Sqi,
-    Climax,
-    Side,
+    Value(u8),
     Broken,
 }
 
@@ -32,7 +31,7 @@ pub enum ItemsRead {
     Broken,
 }
 
-// An SQI item may begin: in RX, and if there is none yet.
+// An SQI item may stand: in RX, and if there is none yet.
 fn sqi_free(d: Direction, i: SqiItem) -> bool
     ensures { λ r. ⌜ r ≡ sqiFree d i ⌝ }
 {
@@ -48,7 +47,7 @@ fn sqi_free(d: Direction, i: SqiItem) -> bool
     }
 }
 
-// A CLIMAX item may begin: in TX, and if there is none yet.
+// A CLIMAX item may stand: in TX, and if there is none yet.
 fn climax_free(d: Direction, i: ClimaxItem) -> bool
     ensures { λ r. ⌜ r ≡ climaxFree d i ⌝ }
 {
@@ -61,7 +60,7 @@ fn climax_free(d: Direction, i: ClimaxItem) -> bool
     }
 }
 
-// A main/standby item may begin: if there is none yet.
+// A main/standby item may stand: if there is none yet.
 fn side_free(i: SideItem) -> bool
     ensures { λ r. ⌜ r ≡ sideFree i ⌝ }
 {
@@ -78,51 +77,16 @@ fn at(mode: Mode, items: Items) -> Scan
     Scan { mode, items }
 }
 
-// An item's first byte: type in the high half, length 1 in the low half.
-fn begin(d: Direction, items: Items, b: u8) -> Scan
-    ensures { λ r. ⌜ r ≡ beginOf d items b ⌝ }
+fn take_sqi(d: Direction, items: Items, b: u8) -> Scan
+    ensures { λ r. ⌜ r ≡ takeSqi d items b ⌝ }
 {
-    let sqi = items.sqi;
-    let climax = items.climax;
-    let side = items.side;
-    let length = b % 16;
-    if length != 1 {
-        return at(Mode::Broken, items);
-    }
-    let kind = b / 16 % 16;
-    if kind == 1 {
-        let free = sqi_free(d, sqi);
-        if free {
-            return at(Mode::Sqi, items);
-        }
-        return at(Mode::Broken, items);
-    }
-    if kind == 2 {
-        let free = climax_free(d, climax);
-        if free {
-            return at(Mode::Climax, items);
-        }
-        return at(Mode::Broken, items);
-    }
-    if kind == 5 {
-        let free = side_free(side);
-        if free {
-            return at(Mode::Side, items);
-        }
-        return at(Mode::Broken, items);
-    }
-    at(Mode::Broken, items)
-}
-
-fn take_sqi(items: Items, b: u8) -> Scan
-    ensures { λ r. ⌜ r ≡ takeSqi items b ⌝ }
-{
+    let before = items.sqi;
     let climax = items.climax;
     let side = items.side;
     let quality = b / 8 % 32;
     let method = b % 8;
-    let allowed = sqi_allowed(quality, method);
-    if allowed {
+    let fits = sqi_free(d, before) & sqi_allowed(quality, method);
+    if fits {
         let sqi = SqiItem::Is { quality, method };
         at(Mode::Next, Items { sqi, climax, side })
     } else {
@@ -130,13 +94,14 @@ fn take_sqi(items: Items, b: u8) -> Scan
     }
 }
 
-fn take_climax(items: Items, b: u8) -> Scan
-    ensures { λ r. ⌜ r ≡ takeClimax items b ⌝ }
+fn take_climax(d: Direction, items: Items, b: u8) -> Scan
+    ensures { λ r. ⌜ r ≡ takeClimax d items b ⌝ }
 {
     let sqi = items.sqi;
+    let before = items.climax;
     let side = items.side;
-    let high = b / 128 % 2;
-    if high == 1 {
+    let fits = climax_free(d, before) & (b / 128 % 2 == 1);
+    if fits {
         let climax = ClimaxItem::Is(b % 128);
         at(Mode::Next, Items { sqi, climax, side })
     } else {
@@ -149,28 +114,60 @@ fn take_side(items: Items, b: u8) -> Scan
 {
     let sqi = items.sqi;
     let climax = items.climax;
-    let rest = b % 128;
-    if rest != 0 {
-        return at(Mode::Broken, items);
-    }
-    let high = b / 128 % 2;
-    if high == 1 {
-        let side = SideItem::Standby;
+    let before = items.side;
+    let fits = side_free(before) & (b % 128 == 0);
+    if fits {
+        let side = side_of(b);
         at(Mode::Next, Items { sqi, climax, side })
     } else {
-        let side = SideItem::Main;
-        at(Mode::Next, Items { sqi, climax, side })
+        at(Mode::Broken, items)
     }
 }
 
-// Behind the ending zero byte, and under X = 0, every byte is zero.
-fn zeros(items: Items, b: u8) -> Scan
-    ensures { λ r. ⌜ r ≡ zerosOf items b ⌝ }
+fn side_of(b: u8) -> SideItem
+    ensures { λ r. ⌜ r ≡ sideOf b ⌝ }
 {
-    if b != 0 {
+    let high = b / 128 % 2;
+    if high == 1 {
+        SideItem::Standby
+    } else {
+        SideItem::Main
+    }
+}
+
+// An item, by its first byte (type in the high half, length 1 in the low half) and its value.
+fn take(d: Direction, items: Items, head: u8, b: u8) -> Scan
+    ensures { λ r. ⌜ r ≡ takeItem d items head b ⌝ }
+{
+    let item_length = head % 16;
+    if item_length != 1 {
         return at(Mode::Broken, items);
     }
-    at(Mode::Tail, items)
+    let kind = head / 16 % 16;
+    if kind == 1 {
+        return take_sqi(d, items, b);
+    }
+    if kind == 2 {
+        return take_climax(d, items, b);
+    }
+    if kind == 5 {
+        return take_side(items, b);
+    }
+    at(Mode::Broken, items)
+}
+
+// Behind the ending zero byte, and under X = 0, every byte is zero.
+fn in_zeros(b: u8) -> Mode
+    ensures { λ r. ⌜ r ≡ inZeros b ⌝ }
+{
+    if b == 0 { Mode::Tail } else { Mode::Broken }
+}
+
+// Behind an item a zero byte ends the items, and any other begins one.
+fn behind_item(b: u8) -> Mode
+    ensures { λ r. ⌜ r ≡ behindItem b ⌝ }
+{
+    if b == 0 { Mode::Tail } else { Mode::Value(b) }
 }
 
 // One byte further.
@@ -180,18 +177,10 @@ fn step(d: Direction, s: Scan, b: u8) -> Scan
     let mode = s.mode;
     let items = s.items;
     match mode {
-        Mode::Tail => zeros(items, b),
-        Mode::First => begin(d, items, b),
-        Mode::Next => {
-            if b == 0 {
-                at(Mode::Tail, items)
-            } else {
-                begin(d, items, b)
-            }
-        }
-        Mode::Sqi => take_sqi(items, b),
-        Mode::Climax => take_climax(items, b),
-        Mode::Side => take_side(items, b),
+        Mode::Tail => at(in_zeros(b), items),
+        Mode::First => at(Mode::Value(b), items),
+        Mode::Next => at(behind_item(b), items),
+        Mode::Value(head) => take(d, items, head, b),
         Mode::Broken => at(Mode::Broken, items),
     }
 }
@@ -210,35 +199,35 @@ fn scanned(d: Direction, start: Scan, s: &[u8]) -> Scan
 }
 
 // X = 0: zeros alone; X = 1: at least one item.
-fn start(x: u16) -> Scan
-    ensures { λ r. ⌜ r ≡ startOf x ⌝ }
+fn start(x: u16) -> Mode
+    ensures { λ r. ⌜ r ≡ startIn x ⌝ }
 {
-    let none = Items {
-        sqi: SqiItem::Absent,
-        climax: ClimaxItem::Absent,
-        side: SideItem::Absent,
-    };
-    if x == 0 {
-        at(Mode::Tail, none)
-    } else {
-        at(Mode::First, none)
-    }
+    if x == 0 { Mode::Tail } else { Mode::First }
 }
 
 // The bytes may end in the zeros, or where a further item would begin.
+fn may_end(mode: Mode) -> bool
+    ensures { λ r. ⌜ r ≡ mayEnd mode ⌝ }
+{
+    match mode {
+        Mode::Tail => true,
+        Mode::First => false,
+        Mode::Next => true,
+        Mode::Value(_) => false,
+        Mode::Broken => false,
+    }
+}
+
 fn end(s: Scan) -> ItemsRead
     ensures { λ r. ⌜ r ≡ endOf s ⌝ }
 {
     let mode = s.mode;
     let items = s.items;
-    match mode {
-        Mode::Tail => ItemsRead::Items(items),
-        Mode::Next => ItemsRead::Items(items),
-        Mode::First => ItemsRead::Broken,
-        Mode::Sqi => ItemsRead::Broken,
-        Mode::Climax => ItemsRead::Broken,
-        Mode::Side => ItemsRead::Broken,
-        Mode::Broken => ItemsRead::Broken,
+    let ended = may_end(mode);
+    if ended {
+        ItemsRead::Items(items)
+    } else {
+        ItemsRead::Broken
     }
 }
 
@@ -246,5 +235,11 @@ fn end(s: Scan) -> ItemsRead
 pub fn items(d: Direction, x: u16, s: &[u8]) -> ItemsRead
     ensures { λ r. ⌜ r ≡ itemsRead d x (now (s .entry)) ⌝ }
 {
-    end(scanned(d, start(x), s))
+    let none = Items {
+        sqi: SqiItem::Absent,
+        climax: ClimaxItem::Absent,
+        side: SideItem::Absent,
+    };
+    let first = at(start(x), none);
+    end(scanned(d, first, s))
 }

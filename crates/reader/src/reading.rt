@@ -3,9 +3,11 @@ ghost use mathlib.Core.Path.{_≡_};
 ghost use Prim.Native.Nat.{min};
 ghost use lib.ListN.{length};
 ghost use Rattle.base.specs.Bytes.{LiesAt};
-ghost use Rattle.packet.specs.Packet.{payload, payloadAt, payloadAllowed, fieldAllowed};
-ghost use Rattle.reader.specs.Reading.{read, readTx, readRx, txAnswer, rxAnswer, asTx, asRx, messageWith};
+ghost use Rattle.packet.specs.Items.{kept};
+ghost use Rattle.packet.specs.Packet.{field, x, afterField, payload, payloadAt, payloadAllowed, fieldAllowed};
+ghost use Rattle.reader.specs.Reading.{read, readTx, readRx, txAnswer, rxAnswer, asTx, asRx, itemsHere, messageOf};
 ghost use Rattle.reader.specs.Pieces.{readAnswer, itemsAnswer, payloadAnswer, contentAnswer};
+ghost use Rattle.reader.specs.Scan.{itemsRead};
 use crate::frame::extension_verdict;
 use crate::frame::field;
 use crate::frame::head_verdict;
@@ -140,7 +142,7 @@ fn content(d: Direction, p: &[u8]) -> AnyRead
     if allowed {
         let words = words_at(p) as usize;
         let rest = part(p, words + 2, payload_at(p) as usize);
-        with_items(p, items(d, f % 2, rest))
+        with_items(d, p, items(d, f % 2, rest))
     } else {
         AnyRead::Refused(Refusal::FieldRule)
     }
@@ -166,22 +168,26 @@ fn field_allowed(d: Direction, f: u16) -> bool
     }
 }
 
-fn with_items(p: &[u8], found: ItemsRead) -> AnyRead
-    ensures { λ r. ⌜ readAnswer r ≡ itemsAnswer (now (p .entry)) found ⌝ }
+// 11 and 12, with what the bytes after the first two were found to be.
+fn with_items(d: Direction, p: &[u8], found: ItemsRead) -> AnyRead
+    requires { ⌜ found ≡ itemsRead d (x (field (now p))) (afterField (now p)) ⌝ }
+    ensures { λ r. ⌜ readAnswer r ≡ itemsAnswer d (now (p .entry)) ⌝ }
 {
     match found {
         ItemsRead::Broken => AnyRead::Refused(Refusal::ItemRule),
-        ItemsRead::Items(k) => with_payload(p, k),
+        ItemsRead::Items(items) => with_payload(p, items),
     }
 }
 
-fn with_payload(p: &[u8], k: Items) -> AnyRead
-    ensures { λ r. ⌜ readAnswer r ≡ payloadAnswer (now (p .entry)) k ⌝ }
+// 12, with the packet's items.
+fn with_payload(p: &[u8], items: Items) -> AnyRead
+    requires { ⌜ items ≡ kept (itemsHere (now p)) ⌝ }
+    ensures { λ r. ⌜ readAnswer r ≡ payloadAnswer (now (p .entry)) ⌝ }
 {
-    let length = payload(p).len();
-    let allowed = payload_allowed(payload_type(p), length);
+    let payload_length = payload(p).len();
+    let allowed = payload_allowed(payload_type(p), payload_length);
     if allowed {
-        AnyRead::Message(message(p, k))
+        AnyRead::Message(message(p, items))
     } else {
         AnyRead::Refused(Refusal::PayloadLength)
     }
@@ -197,7 +203,8 @@ fn payload_allowed(kind: u8, n: usize) -> bool
 }
 
 fn message(p: &[u8], items: Items) -> Message
-    ensures { λ r. ⌜ r ≡ messageWith (now (p .entry)) items ⌝ }
+    requires { ⌜ items ≡ kept (itemsHere (now p)) ⌝ }
+    ensures { λ r. ⌜ r ≡ messageOf (now (p .entry)) ⌝ }
 {
     let f = field(p);
     Message {

@@ -11,7 +11,7 @@ use lib.Seq.{getD-take, take-take, take-all, length-take-le}
 use Rattle.base.specs.Bytes.{byteAt, number16, bits, isSet, partOf}
 use Rattle.base.proofs.Truths.{or-right}
 use Rattle.packet.specs.Refusals.{Case, _if_, Answer, refused, causeOf, judged, mapped}
-use Rattle.packet.specs.Packet.{padding, marker, extensionAt, extensionType, wordsAt, wordCount, payloadAt, payload, payloadAllowed, payloadType, audio, r2s, field, fieldAllowed, afterField, x}
+use Rattle.packet.specs.Packet.{padding, marker, extensionAt, extensionType, wordsAt, wordCount, payloadAt, payload, payloadAllowed, payloadType, audioType, r2sType, field, fieldAllowed, afterField, x}
 use Rattle.packet.specs.Items.{itemsAllowed}
 use Rattle.reader.specs.Reading.{readerRefusals, read, readTx, messageOf, asTx}
 use Rattle.packet.specs.declared.message.Direction.{Direction}
@@ -113,7 +113,7 @@ module _ (p : List ℕ) (long : 377 ≤ length p) where
       next (ap (λ (b : ℕ). not (eqb (bits 8 0 2 b) 2)) same-first) λ _.
       next same-flags λ _.
       next (ap (λ (b : ℕ). not (isSet (bits 8 3 1 b))) same-first) λ _.
-      next (ap (λ (t : ℕ). not (eqb t audio || eqb t r2s)) same-kind) λ _.
+      next (ap (λ (t : ℕ). not (eqb t audioType || eqb t r2sType)) same-kind) λ _.
       next (reaches (wordsAt front) (wordsAt p) (ap (λ (i : ℕ). i + 4) same-extension-at) (omega (arith, extension-near))) λ _.
       next (ap (λ (t : ℕ). not (eqb t ext)) same-type) λ _.
       next (ap (λ (w : ℕ). eqb w 0 || ltb 15 w) same-count) λ few.

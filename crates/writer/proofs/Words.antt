@@ -6,10 +6,11 @@ use mathlib.Core.List.{List, [], _∷_}
 use native.Mathlib.Omega.{arith}
 use borrow.Author.Tests.{ne-eqb}
 use lib.Dec.{eqb}
-use lib.ListN.{length, length-append, length-replicate}
-use Rattle.base.specs.Bytes.{byteAt, placed, partOf, padded}
-use Rattle.base.proofs.Buffers.{unpadded}
+use lib.ListN.{length, take, length-append, length-replicate}
+use lib.Seq.{take-take, take-append-seam}
+use Rattle.base.specs.Bytes.{byteAt, placed, partOf}
 use Rattle.packet.specs.Items.{Item, someItem}
+use Rattle.writer.specs.Pieces.{padded}
 use Rattle.writer.specs.Writing.{risingItems, itemBytes, sqiListed, climaxListed, sideListed, fewestWords, fieldOf, wordsOf}
 use Rattle.packet.specs.declared.message.SqiItem.{SqiItem}
 use Rattle.packet.specs.declared.message.SqiItem.the-variants as sqi
@@ -91,6 +92,10 @@ at-most-three k = simp length-append (omega (arith, of-sqi (k .sqi), of-climax (
 
 two-words : (k : Items) → 4 * fewestWords (risingItems k) ≤ 8
 two-words k = omega (arith, at-most-three k)
+
+-- bytes with zeros behind them, without the zeros
+unpadded : (P : List ℕ) (n : ℕ) → length P ≤ n → take (length P) (padded n P) ≡ P
+unpadded P n h = rw (take-take, take-append-seam)
 
 -- of the eight bytes, the words
 pub words-cut : (m : Message) → partOf 0 (4 * fewestWords (risingItems (m .items))) (padded 8 (wordsOf m (risingItems (m .items)))) ≡ wordsOf m (risingItems (m .items))

@@ -5,7 +5,7 @@ use mathlib.Core.List.{List, [], _∷_, _++_}
 use lib.ListN.{length, drop, replicate}
 use lib.Dec.{ltb, leb, eqb}
 use Rattle.base.specs.Bytes.{bytes8, bytes16, bytes32, placed, bit}
-use Rattle.packet.specs.Packet.{audio, r2s, audioLength, pttAllowed}
+use Rattle.packet.specs.Packet.{audioType, r2sType, audioLength, pttAllowed}
 use Rattle.packet.specs.Items.{Item, sqiType, climaxType, sideType, someItem, sqiAllowed}
 use Rattle.packet.specs.Refusals.{Case, _if_, Answer, accepted, refused, refusal, judged}
 use Rattle.packet.specs.declared.message.SqiItem.{SqiItem}
@@ -89,8 +89,8 @@ unfoldable pub wordsOf : Message → List Item → List ℕ
 wordsOf m is = bytes16 (fieldOf m is) ++ itemBytes is ++ replicate (4 * fewestWords is - (2 + 2 * length is)) 0
 
 -- "The report is type 8 if audio is given, else 123": so with every packet that is written.
-abbrev pub kindFor : (audioLength : ℕ) → ℕ
-kindFor n = cond (eqb n 0) r2s audio
+abbrev pub kindFor : (bytes : ℕ) → ℕ
+kindFor bytes = cond (eqb bytes 0) r2sType audioType
 
 -- "Byte 0: version 2, padding 0, extension 1, CSRC count CC"; "Byte 1: marker 0, payload type"
 unfoldable pub headOf : Message → (kind : ℕ) → List ℕ
@@ -98,8 +98,8 @@ headOf m kind =
     bytes8 (placed 8 0 2 2 + placed 8 3 1 1) ++ bytes8 kind ++ bytes16 (m .sequence) ++ bytes32 (m .timestamp) ++ bytes32 (m .ssrc)
 
 unfoldable pub encode : (ext : ℕ) → Message → (audio : List ℕ) → List ℕ
-encode ext m sound =
-    headOf m (kindFor (length sound)) ++ bytes16 ext ++ bytes16 (fewestWords (risingItems (m .items))) ++ wordsOf m (risingItems (m .items)) ++ sound
+encode ext m audio =
+    headOf m (kindFor (length audio)) ++ bytes16 ext ++ bytes16 (fewestWords (risingItems (m .items))) ++ wordsOf m (risingItems (m .items)) ++ audio
 
 -- 27: "writer given a value its reader would refuse". So also one that does not fit its bits, which no reader could see.
 abbrev pub sqiWritable : SqiItem → Bool
@@ -110,22 +110,22 @@ abbrev pub climaxWritable : ClimaxItem → Bool
 climaxWritable climax.Absent = true
 climaxWritable (climax.Is delay) = leb delay 127
 
-abbrev pub audioWritable : (audioLength : ℕ) → Bool
-audioWritable n = eqb n 0 || audioLength n
+abbrev pub audioWritable : (bytes : ℕ) → Bool
+audioWritable bytes = eqb bytes 0 || audioLength bytes
 
-unfoldable pub writable : Message → (audioLength : ℕ) → Bool
-writable m n =
-    pttAllowed (m .ptt) && leb (m .id) 63 && sqiWritable (m .items .sqi) && climaxWritable (m .items .climax) && audioWritable n
+unfoldable pub writable : Message → (bytes : ℕ) → Bool
+writable m bytes =
+    pttAllowed (m .ptt) && leb (m .id) 63 && sqiWritable (m .items .sqi) && climaxWritable (m .items .climax) && audioWritable bytes
 
 -- "Writers 27, 26."
 unfoldable pub writerRefusals : (ext : ℕ) → Message → (audio : List ℕ) → (room : ℕ) → List Case
-writerRefusals ext m sound room =
-    27 if not (writable m (length sound))
-    ∷ 26 if ltb room (length (encode ext m sound))
+writerRefusals ext m audio room =
+    27 if not (writable m (length audio))
+    ∷ 26 if ltb room (length (encode ext m audio))
     ∷ []
 
 unfoldable pub write : (ext : ℕ) → Message → (audio : List ℕ) → (room : ℕ) → Answer ℕ
-write ext m sound room = judged (writerRefusals ext m sound room) (length (encode ext m sound))
+write ext m audio room = judged (writerRefusals ext m audio room) (length (encode ext m audio))
 
 -- The buffer afterwards: the packet in front and every byte behind it as it was; on a refusal every byte as it was.
 abbrev pub filled : Answer ℕ → (packet buffer : List ℕ) → List ℕ
@@ -133,7 +133,7 @@ filled (accepted n) packet buffer = packet ++ drop n buffer
 filled (refused n c) packet buffer = buffer
 
 unfoldable pub buffered : (ext : ℕ) → Message → (audio buffer : List ℕ) → List ℕ
-buffered ext m sound buffer = filled (write ext m sound (length buffer)) (encode ext m sound) buffer
+buffered ext m audio buffer = filled (write ext m audio (length buffer)) (encode ext m audio) buffer
 
 -- The answer of the code, as 01 writes it.
 abbrev pub writtenAnswer : Written → Answer ℕ

@@ -89,12 +89,12 @@ fn write(ext: u16, m: Message, audio: &[u8], out: &mut [u8]) -> Written
 {
     let fine = writable(m, audio.len());
     let items = m.items;
-    let length = 16 + 4 * (fewest_words(items) as usize) + audio.len();
-    let fits = length <= out.len();
+    let needed = 16 + 4 * (fewest_words(items) as usize) + audio.len();
+    let fits = needed <= out.len();
     if fine {
         if fits {
             put_packet(ext, m, audio, out);
-            Written::Length(length)
+            Written::Length(needed)
         } else {
             Written::Refused(Refusal::BufferTooShort)
         }

@@ -11,7 +11,7 @@ use borrow.Author.Tests.{eqb-true, eq-eqb, ne-eqb, not-false}
 use Rattle.base.specs.Bytes.{Bytes}
 use Rattle.base.proofs.Truths.{and-right, and-rest, or-left, or-right, or-rest}
 use Rattle.base.proofs.Numbers.{number16-small}
-use Rattle.reader.specs.Reading.{messageOf, messageWith}
+use Rattle.reader.specs.Reading.{messageOf, itemsHere}
 use Rattle.packet.specs.declared.message.ClimaxItem.{ClimaxItem}
 use Rattle.packet.specs.declared.message.ClimaxItem.the-variants as climax
 use Rattle.packet.specs.declared.message.SideItem.{SideItem}
@@ -159,7 +159,7 @@ module _ (setup : Setup) (n : ℕ) (seats : List Seat) where
 
   pub heard-seat-kept : (p : List ℕ) → PacketAccepted setup n (seatOf seats n) p → Bytes p → SeatKept setup n (seatOf seats n)
       → SeatKept setup n (heardSeat (seatOf seats n) (messageIn p))
-  unfolding heardSeat messageOf messageWith
+  unfolding heardSeat messageOf itemsHere
   heard-seat-kept p passed small kept =
       let s = seatOf seats n in
       record {

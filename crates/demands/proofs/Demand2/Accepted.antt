@@ -9,17 +9,16 @@ use lib.ListN.{length}
 use borrow.Author.Tests.{le-leb, eqb-true, ne-eqb}
 use Rattle.base.specs.Bytes.{Bytes}
 use Rattle.base.proofs.Numbers.{number16-small, number32-small}
-use Rattle.packet.specs.Packet.{extensionAt, audio, r2s, audioLength, payloadType, payload, payloadAllowed, field, pttType, pttId, squ, sct}
+use Rattle.packet.specs.Packet.{extensionAt, audioType, r2sType, audioLength, payloadType, payload, payloadAllowed, field, pttType, pttId, squ, sct}
 use Rattle.packet.specs.Items.{kept}
 use Rattle.packet.specs.Refusals.{accepted}
-use Rattle.reader.specs.Reading.{messageOf, messageWith, read, asTx, asRx}
+use Rattle.reader.specs.Reading.{messageOf, itemsHere, read, asTx, asRx}
 use Rattle.writer.specs.Writing.{fromTx, fromRx, kindFor, writable}
 use Rattle.packet.specs.declared.message.Direction.{Direction}
 use Rattle.packet.specs.declared.message.Direction.the-variants.{Tx, Rx}
 use Rattle.packet.specs.declared.message.SqiItem.{SqiItem}
 use Rattle.packet.specs.declared.message.ClimaxItem.{ClimaxItem}
 use Rattle.packet.specs.declared.message.Message.{Message}
-use Rattle.demands.specs.Plain.{itemsHere}
 use Rattle.demands.specs.RoundTrip.{Narrow}
 use Rattle.reader.proofs.Passed.{Passed, accepted-passed, field-passed}
 use Rattle.demands.proofs.Demand2.Inversion.{after-bytes}
@@ -33,14 +32,14 @@ audio-some zero e = absurd (false≢true e)
 audio-some (suc n) e = ne-eqb (suc n) 0 (omega arith)
 
 -- the payload's length tells the kind, and a writer takes it
-kind-and-sound : (k n : ℕ) → (eqb k audio || eqb k r2s) ≡ true → payloadAllowed k n ≡ true → (k ≡ kindFor n) × ((eqb n 0 || audioLength n) ≡ true)
+kind-and-sound : (k n : ℕ) → (eqb k audioType || eqb k r2sType) ≡ true → payloadAllowed k n ≡ true → (k ≡ kindFor n) × ((eqb n 0 || audioLength n) ≡ true)
 unfolding payloadAllowed
-kind-and-sound k n e h = by-kind (eqb k audio) refl e h
+kind-and-sound k n e h = by-kind (eqb k audioType) refl e h
   where
-    by-kind : (t : Bool) → eqb k audio ≡ t → (t || eqb k r2s) ≡ true → cond t (audioLength n) (eqb n 0) ≡ true
+    by-kind : (t : Bool) → eqb k audioType ≡ t → (t || eqb k r2sType) ≡ true → cond t (audioLength n) (eqb n 0) ≡ true
         → (k ≡ kindFor n) × ((eqb n 0 || audioLength n) ≡ true)
-    by-kind true p q r = simp (audio-some n r) (eqb-true k audio p, r)
-    by-kind false p q r = simp r (eqb-true k r2s q, refl)
+    by-kind true p q r = simp (audio-some n r) (eqb-true k audioType p, r)
+    by-kind false p q r = simp r (eqb-true k r2sType q, refl)
 
 -- ---- what the writer asks
 
@@ -53,7 +52,7 @@ module _ (d : Direction) (ext : ℕ) (p : List ℕ) (small : Bytes p) (h : Passe
   kind-is = kind-and-sound (payloadType p) (length (payload p)) (h .known-kind) (h .payload-allowed) .0
 
   pub numbers-fit : Narrow ext (messageOf p)
-  unfolding messageOf messageWith
+  unfolding messageOf itemsHere
   numbers-fit =
       record {
         extension = rw (h .type-is) at (number16-small p small (extensionAt p));
@@ -63,7 +62,7 @@ module _ (d : Direction) (ext : ℕ) (p : List ℕ) (small : Bytes p) (h : Passe
       }
 
   pub message-writable : writable (messageOf p) (length (payload p)) ≡ true
-  unfolding writable messageOf messageWith kept itemsHere
+  unfolding writable messageOf kept itemsHere
   message-writable =
       let f = field p in
       simp (
@@ -78,7 +77,7 @@ module _ (d : Direction) (ext : ℕ) (p : List ℕ) (small : Bytes p) (h : Passe
 
 -- refusals 10 and 11 leave nothing else
 message-says : (d : Direction) (ext : ℕ) (p : List ℕ) → Bytes p → Passed d ext p → Says d (messageOf p)
-unfolding messageOf messageWith kept itemsHere
+unfolding messageOf kept itemsHere
 message-says Tx ext p small h =
     let f = field p in
     let passed = field-passed Tx f (h .field-allowed) in

@@ -8,7 +8,7 @@ use lib.Dec.{ltb, leb, eqb}
 use borrow.Author.Tests.{ltb-true, ltb-false, eqb-true, le-leb}
 use Rattle.base.specs.Bytes.{placed, Bytes}
 use Rattle.base.proofs.Truths.{and-left, and-right}
-use Rattle.packet.specs.Items.{Item, Found, found, broken, behind, allZero, itemLength, itemsIn, quality, method, delay, sqiAllowed, climaxAllowed, sideAllowed, inTx, inRx, itemAllowed, allAllowed, runAllowed, itemsAllowed, listed, someItem, itemsOf, sqiAmong, climaxAmong, kept}
+use Rattle.packet.specs.Items.{Item, Found, found, broken, behind, allZero, itemLength, itemsIn, sqiQuality, sqiMethod, climaxDelay, sqiAllowed, climaxAllowed, sideAllowed, inTx, inRx, itemAllowed, allAllowed, runAllowed, itemsAllowed, listed, someItem, itemsOf, sqiAmong, climaxAmong, kept}
 use Rattle.writer.specs.Writing.{sideListed, risingItems, sqiWritable, climaxWritable}
 use Rattle.packet.specs.declared.message.Direction.{Direction}
 use Rattle.packet.specs.declared.message.Direction.the-variants.{Tx, Rx}
@@ -151,18 +151,18 @@ stood d i t v e h s =
     subst (λ (n : ℕ). Stands d (record { type = n; value = i .value })) (sym e) (subst (λ (n : ℕ). Stands d (record { type = t; value = n })) (sym h) s)
 
 module _ (i : Item) (small : i .value < 256) where
-  quality-stands : (d : Direction) → eqb (i .type) 1 && inRx d && sqiAllowed (quality (i .value)) (method (i .value)) ≡ true → Stands d i
+  quality-stands : (d : Direction) → eqb (i .type) 1 && inRx d && sqiAllowed (sqiQuality (i .value)) (sqiMethod (i .value)) ≡ true → Stands d i
   quality-stands Tx e = absurd (false≢true (and-right (eqb (i .type) 1) false (and-left (eqb (i .type) 1 && false) _ e)))
   quality-stands Rx e =
-      stood Rx i 1 (placed 8 0 5 (quality (i .value)) + placed 8 5 3 (method (i .value))) (eqb-true (i .type) 1 (and-left _ true (and-left (eqb (i .type) 1 && true) _ e))) (omega arith)
-      (a-quality (quality (i .value)) (method (i .value)) (and-right (eqb (i .type) 1 && true) _ e))
+      stood Rx i 1 (placed 8 0 5 (sqiQuality (i .value)) + placed 8 5 3 (sqiMethod (i .value))) (eqb-true (i .type) 1 (and-left _ true (and-left (eqb (i .type) 1 && true) _ e))) (omega arith)
+      (a-quality (sqiQuality (i .value)) (sqiMethod (i .value)) (and-right (eqb (i .type) 1 && true) _ e))
 
   delay-stands : (d : Direction) → eqb (i .type) 2 && inTx d && climaxAllowed (i .value) ≡ true → Stands d i
   delay-stands Rx e = absurd (false≢true (and-right (eqb (i .type) 2) false (and-left (eqb (i .type) 2 && false) _ e)))
   delay-stands Tx e =
       let high = eqb-true (i .value / 128 % 2) 1 (and-right (eqb (i .type) 2 && true) _ e) in
-      stood Tx i 2 (placed 8 0 1 1 + placed 8 1 7 (delay (i .value))) (eqb-true (i .type) 2 (and-left _ true (and-left (eqb (i .type) 2 && true) _ e))) (omega arith)
-      (a-delay (delay (i .value)) (le-leb (delay (i .value)) 127 (omega arith)))
+      stood Tx i 2 (placed 8 0 1 1 + placed 8 1 7 (climaxDelay (i .value))) (eqb-true (i .type) 2 (and-left _ true (and-left (eqb (i .type) 2 && true) _ e))) (omega arith)
+      (a-delay (climaxDelay (i .value)) (le-leb (climaxDelay (i .value)) 127 (omega arith)))
 
   side-stands : (d : Direction) → eqb (i .type) 5 && sideAllowed (i .value) ≡ true → Stands d i
   side-stands d e = by-half (ltb (i .value) 128) refl
@@ -178,7 +178,7 @@ module _ (i : Item) (small : i .value < 256) where
   unfolding itemAllowed
   allowed-stands d e = by-line _ _ _ refl refl refl e
     where
-      by-line : (a b c : Bool) → eqb (i .type) 1 && inRx d && sqiAllowed (quality (i .value)) (method (i .value)) ≡ a
+      by-line : (a b c : Bool) → eqb (i .type) 1 && inRx d && sqiAllowed (sqiQuality (i .value)) (sqiMethod (i .value)) ≡ a
           → eqb (i .type) 2 && inTx d && climaxAllowed (i .value) ≡ b → eqb (i .type) 5 && sideAllowed (i .value) ≡ c → (a || b || c) ≡ true → Stands d i
       by-line true b c p q r h = quality-stands d p
       by-line false true c p q r h = delay-stands d q

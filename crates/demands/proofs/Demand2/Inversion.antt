@@ -14,13 +14,12 @@ use Rattle.base.proofs.Truths.{and-left}
 use Rattle.base.proofs.Numbers.{cut, byte-back, number16-back, number32-back, number16-small}
 use Rattle.packet.specs.Packet.{csrcCount, payloadType, sequence, timestamp, ssrc, extensionAt, wordCount, wordsAt, payloadAt, payload, field, pttType, squ, pttId, pm, ptts, sct, x, afterField}
 use Rattle.packet.specs.Items.{Item, Found, found, broken, someItem, itemsIn, itemsAllowed, runAllowed, itemsOf, listed, allZero, allAllowed, noTypeTwice}
-use Rattle.reader.specs.Reading.{messageOf, messageWith}
+use Rattle.reader.specs.Reading.{messageOf, itemsHere}
 use Rattle.writer.specs.Writing.{fieldOf, itemBytes}
 use Rattle.packet.specs.declared.message.Direction.{Direction}
 use Rattle.packet.specs.declared.message.Direction.the-variants.{Tx, Rx}
 use Rattle.packet.specs.declared.message.Message.{Message}
 use Rattle.demands.specs.Inversion.{laid, csrcWords, Inversion}
-use Rattle.demands.specs.Plain.{itemsHere}
 use Rattle.reader.proofs.Passed.{Passed, accepted-passed, FieldPassed, field-passed}
 use Rattle.demands.proofs.Demand2.Items.{zeros-are, items-back}
 
@@ -138,7 +137,7 @@ module _ (d : Direction) (ext : ℕ) (p : List ℕ) (small : Bytes p) (h : Passe
   here = items-under-x d (field p) (afterField p) after-bytes (h .items-allowed)
 
   field-back : field p ≡ fieldOf (messageOf p) (itemsHere p)
-  unfolding messageOf messageWith
+  unfolding messageOf
   field-back =
       let f = field p in
       field-parts f f-small (none-reserved d f (field-passed d f (h .field-allowed)))
@@ -184,7 +183,7 @@ module _ (d : Direction) (ext : ℕ) (p : List ℕ) (small : Bytes p) (h : Passe
   first-back = first-byte (byteAt p 0) (small 0) (h .version-two) (h .no-padding) (h .extended) ∙ ap (λ (n : ℕ). 144 + n * 1) (sym csrc-count)
 
   pub laid-out : p ≡ laid (csrcWords p) (payloadType p) ext (wordCount p) (messageOf p) (itemsHere p) (payload p)
-  unfolding laid messageOf messageWith
+  unfolding laid messageOf
   laid-out =
       let e = extensionAt p in
       let e4 : e + 2 + 2 ≡ wordsAt p = omega arith in

@@ -11,7 +11,7 @@ use Rattle.base.specs.Bytes.{isSet}
 use Rattle.packet.specs.Packet.{x, fieldAllowed, payloadAllowed, afterField, pttType, squ, pttId, pm, ptts, sct}
 use Rattle.packet.specs.Items.{itemsAllowed, itemsOf, kept}
 use Rattle.packet.specs.Refusals.{NoCase}
-use Rattle.reader.specs.Reading.{readerRefusals, messageOf, messageWith}
+use Rattle.reader.specs.Reading.{readerRefusals, messageOf, itemsHere}
 use Rattle.packet.specs.declared.message.Direction.{Direction}
 use Rattle.demands.proofs.Demand2.Chain.{_and_}
 use Rattle.demands.proofs.Demand2.Parts.{HasParts}
@@ -48,5 +48,5 @@ module _ (d : Direction) (p : List ℕ) (kind seq ts source ext w f : ℕ) (inne
         sct = isSet (sct f);
         items = kept (itemsOf (x f) inner);
       }
-  unfolding messageOf messageWith
+  unfolding messageOf itemsHere
   message-made = simp (h .sequence-is, h .timestamp-is, h .ssrc-is, h .field-is, h .inner-is)

@@ -7,12 +7,12 @@ use borrow.Author.Tests.{le-ltb}
 use Rattle.base.specs.Bytes.{Bytes}
 use Rattle.packet.specs.Packet.{wordCount, payloadType, payload}
 use Rattle.packet.specs.Refusals.{Answer, accepted, refused, mapped}
-use Rattle.reader.specs.Reading.{messageOf, messageWith, read, asTx, asRx, readTx, readRx}
+use Rattle.reader.specs.Reading.{messageOf, itemsHere, read, asTx, asRx, readTx, readRx}
 use Rattle.writer.specs.Writing.{fromTx, fromRx, fewestWords, kindFor, wordsOf, headOf, encode, writerRefusals, write, buffered}
 use Rattle.packet.specs.declared.message.Direction.{Direction}
 use Rattle.packet.specs.declared.message.Direction.the-variants.{Tx, Rx}
 use Rattle.packet.specs.declared.message.Message.{Message}
-use Rattle.demands.specs.Plain.{itemsHere, Plain}
+use Rattle.demands.specs.Plain.{Plain}
 use Rattle.demands.specs.Inversion.{laid, csrcWords}
 use Rattle.demands.specs.Rewrite.{Rewritten, Rewrite, RewriteTx, RewriteRx}
 use Rattle.packet.proofs.Judged.{never}
@@ -34,7 +34,7 @@ module _ (d : Direction) (ext : ℕ) (p : List ℕ) (small : Bytes p) (h : Passe
   m = messageOf p
 
   same-items : Plain p → itemsFor m ≡ itemsHere p
-  unfolding messageOf messageWith itemsHere
+  unfolding messageOf itemsHere
   same-items plain = rising-are-kept d (itemsHere p) (items-stand d ext p small h) (plain .rising)
 
   no-csrc : Plain p → csrcWords p ≡ []

@@ -7,14 +7,13 @@ use lib.ListN.{length}
 use Rattle.packet.specs.Packet.{x, fieldAllowed, payload}
 use Rattle.packet.specs.Items.{itemsAllowed, itemsOf, allAllowed}
 use Rattle.packet.specs.Refusals.{accepted, mapped}
-use Rattle.reader.specs.Reading.{messageOf, read, readerRefusals, asTx, asRx, readTx, readRx}
+use Rattle.reader.specs.Reading.{messageOf, itemsHere, read, readerRefusals, asTx, asRx, readTx, readRx}
 use Rattle.writer.specs.Writing.{fromTx, fromRx, encode, writable}
 use Rattle.packet.specs.declared.message.Direction.{Direction}
 use Rattle.packet.specs.declared.message.Direction.the-variants.{Tx, Rx}
 use Rattle.packet.specs.declared.message.SqiItem.the-variants as sqi
 use Rattle.packet.specs.declared.message.ClimaxItem.the-variants as climax
 use Rattle.packet.specs.declared.message.Message.{Message}
-use Rattle.demands.specs.Plain.{itemsHere}
 use Rattle.demands.specs.RoundTrip.{Narrow, RoundTripTx, RoundTripRx, PlainWritten, ReportsReadBack}
 use Rattle.demands.proofs.Demand2.ItemsBack.{AllWrite, list-back, allowed-back}
 use Rattle.demands.proofs.Demand2.RisingItems.{rising-writes, rising-kept, rising-once, rising-rises, rising-in-tx, rising-in-rx}

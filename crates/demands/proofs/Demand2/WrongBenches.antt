@@ -10,7 +10,7 @@ use Rattle.base.specs.Order.{centred, distance, late, missing}
 use Rattle.packet.specs.Packet.{payload, payloadAllowed, fieldAllowed, afterField, off, normal}
 use Rattle.packet.specs.Items.{allZero, itemsIn, itemAllowed, allAllowed, hasType, noTypeTwice, runAllowed, itemsAllowed, itemsOf, sqiAmong, climaxAmong, sideAmong, kept}
 use Rattle.packet.specs.Quality.{quality}
-use Rattle.reader.specs.Reading.{readerRefusals, messageWith, messageOf}
+use Rattle.reader.specs.Reading.{readerRefusals, itemsHere, messageOf}
 use Rattle.writer.specs.Writing.{risingItems, itemBytes, wordsOf, headOf, encode}
 use Rattle.record.specs.Record.{seatNumbers, openedSeat, freshBench, seatOf, lesson}
 use Rattle.seats.specs.Opening.{anyCoupling, openRefusals, openSaid, openedBench, seatRefusals}
@@ -33,7 +33,7 @@ use Rattle.demands.proofs.Demand2.Nodding.{nodding-apart}
 -- ---- the calls that are tried, computed
 
 tried : Tried
-unfolding centred distance late missing payload payloadAllowed fieldAllowed afterField allZero itemsIn itemAllowed allAllowed hasType noTypeTwice runAllowed itemsAllowed itemsOf sqiAmong climaxAmong sideAmong kept quality readerRefusals messageWith messageOf risingItems itemBytes wordsOf headOf encode openedSeat freshBench seatOf lesson anyCoupling openRefusals openSaid openedBench takesPart keyingsOf keyings topRank atRank leaders added onAir among smallest howMany anySends airOf benchAir fieldHeard keyingBarred idAllowed sideBarred seatRefusals messageRefusals packetRefusals heardSeat begins toLast orderAfter takesEffect sideAfter heardBench sameField isSent hearing packetSaid audioIn reportOf reportBytes reportRefusals reportSaid reportedBench step after
+unfolding centred distance late missing payload payloadAllowed fieldAllowed afterField allZero itemsIn itemAllowed allAllowed hasType noTypeTwice runAllowed itemsAllowed itemsOf sqiAmong climaxAmong sideAmong kept quality readerRefusals itemsHere messageOf risingItems itemBytes wordsOf headOf encode openedSeat freshBench seatOf lesson anyCoupling openRefusals openSaid openedBench takesPart keyingsOf keyings topRank atRank leaders added onAir among smallest howMany anySends airOf benchAir fieldHeard keyingBarred idAllowed sideBarred seatRefusals messageRefusals packetRefusals heardSeat begins toLast orderAfter takesEffect sideAfter heardBench sameField isSent hearing packetSaid audioIn reportOf reportBytes reportRefusals reportSaid reportedBench step after
 tried =
     record {
       opens = refl;

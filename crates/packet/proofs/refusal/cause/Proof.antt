@@ -1,4 +1,4 @@
-use Rattle.base.specs.Tests.{tests}
+use Rattle.base.proofs.Tests.{tests}
 use borrow.Author.Needs.{needs}
 use Rattle.packet.proofs.refusal.cause.Statement.{statement}
 use Rattle.packet.proofs.refusal.cause.Tie as tie

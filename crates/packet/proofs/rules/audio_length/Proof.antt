@@ -1,4 +1,4 @@
-use Rattle.base.specs.Tests.{tests}
+use Rattle.base.proofs.Tests.{tests}
 use Rattle.packet.proofs.rules.audio_length.Statement.{statement}
 use Rattle.packet.proofs.rules.audio_length.Tie as tie
 

@@ -1,4 +1,4 @@
-use Rattle.base.specs.Tests.{tests}
+use Rattle.base.proofs.Tests.{tests}
 use Rattle.packet.proofs.rules.sqi_allowed.Statement.{statement}
 use Rattle.packet.proofs.rules.sqi_allowed.Tie as tie
 

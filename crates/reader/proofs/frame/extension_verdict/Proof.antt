@@ -1,5 +1,5 @@
-use borrow.Author.Tests.{lt-ltb, le-ltb, eq-eqb, ne-eqb}
-use Rattle.base.specs.Tests.{tests}
+use borrow.Author.Tests.{lt-ltb, le-ltb, eq-eqb}
+use Rattle.base.proofs.Tests.{tests}
 use Rattle.reader.specs.Reading.{readerRefusals}
 use Rattle.reader.specs.Pieces.{extensionVerdict}
 use borrow.Author.Needs.{needs}
@@ -30,10 +30,6 @@ returns-3 : tie.Need-returns-3
 unfolding extensionVerdict readerRefusals
 returns-3 c = rw (← c .before .word-count .ensures, ← c .before .before .before .extension-type .ensures, ← c .before .before .before .before .before .words-at .ensures) (search (tests, c .if3 .taken, c .before .before .if2 .left, c .before .before .before .before .if1 .left))
 
-returns-4 : tie.Need-returns-4
-unfolding extensionVerdict readerRefusals
-returns-4 c = rw (← c .before .before .word-count .ensures, ← c .before .before .before .before .extension-type .ensures, ← c .before .before .before .before .before .before .words-at .ensures) (search (tests, c .if4 .taken, c .before .if3 .left, c .before .before .before .if2 .left, c .before .before .before .before .before .if1 .left))
-
 cast-end : tie.Need-cast-end
 cast-end c = search needs
 
@@ -43,13 +39,13 @@ mul-end c = search needs
 add-end : tie.Need-add-end
 add-end c = search needs
 
+returns-4 : tie.Need-returns-4
+unfolding extensionVerdict readerRefusals
+returns-4 c = rw (← c .before .before .word-count .ensures, ← c .before .before .before .before .extension-type .ensures, ← c .before .before .before .before .before .before .words-at .ensures) (simp (le-ltb _ _ (c .before .before .before .before .before .if1 .left), eq-eqb _ _ (c .before .before .before .if2 .left), c .before .if3 .left, lt-ltb _ _ (c .if4 .taken)))
+
 returns-5 : tie.Need-returns-5
 unfolding extensionVerdict readerRefusals
-returns-5 c = rw (← c .before .before .before .word-count .ensures, ← c .before .before .before .before .before .extension-type .ensures, ← c .before .before .before .before .before .before .before .words-at .ensures) (simp (le-ltb _ _ (c .before .before .before .before .before .before .if1 .left), eq-eqb _ _ (c .before .before .before .before .if2 .left), ne-eqb _ _ (c .before .before .if3 .left), le-ltb _ _ (c .before .if4 .left), lt-ltb _ _ (c .if5 .taken)))
-
-returns-6 : tie.Need-returns-6
-unfolding extensionVerdict readerRefusals
-returns-6 c = rw (← c .before .before .before .word-count .ensures, ← c .before .before .before .before .before .extension-type .ensures, ← c .before .before .before .before .before .before .before .words-at .ensures) (simp (le-ltb _ _ (c .before .before .before .before .before .before .if1 .left), eq-eqb _ _ (c .before .before .before .before .if2 .left), ne-eqb _ _ (c .before .before .if3 .left), le-ltb _ _ (c .before .if4 .left), le-ltb _ _ (c .if5 .left)))
+returns-5 c = rw (← c .before .before .word-count .ensures, ← c .before .before .before .before .extension-type .ensures, ← c .before .before .before .before .before .before .words-at .ensures) (simp (le-ltb _ _ (c .before .before .before .before .before .if1 .left), eq-eqb _ _ (c .before .before .before .if2 .left), c .before .if3 .left, le-ltb _ _ (c .if4 .left)))
 
 pub extension-verdict-spec : {M : Type 1} → statement M
 extension-verdict-spec =
@@ -62,9 +58,8 @@ extension-verdict-spec =
     returns-2
     word-count-requires
     returns-3
-    returns-4
     cast-end
     mul-end
     add-end
-    returns-5
-    returns-6)
+    returns-4
+    returns-5)

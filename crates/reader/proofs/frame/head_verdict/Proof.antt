@@ -1,4 +1,4 @@
-use Rattle.base.specs.Tests.{tests}
+use Rattle.base.proofs.Tests.{tests}
 use Rattle.reader.specs.Reading.{readerRefusals}
 use Rattle.reader.specs.Pieces.{headVerdict}
 use borrow.Author.Needs.{needs}
@@ -21,27 +21,19 @@ returns-2 c = search tests
 
 returns-3 : tie.Need-returns-3
 unfolding headVerdict readerRefusals
-returns-3 c = search tests
+returns-3 c = search (tests, c .if3 .taken)
 
 returns-4 : tie.Need-returns-4
 unfolding headVerdict readerRefusals
-returns-4 c = search tests
+returns-4 c = search (tests, c .before .if3 .left)
 
 returns-5 : tie.Need-returns-5
 unfolding headVerdict readerRefusals
-returns-5 c = search tests
+returns-5 c = search (tests, c .if5 .taken, c .before .before .if3 .left)
 
 returns-6 : tie.Need-returns-6
 unfolding headVerdict readerRefusals
-returns-6 c = search tests
-
-returns-7 : tie.Need-returns-7
-unfolding headVerdict readerRefusals
-returns-7 c = search tests
-
-returns-8 : tie.Need-returns-8
-unfolding headVerdict readerRefusals
-returns-8 c = search tests
+returns-6 c = search (tests, c .if5 .left, c .before .before .if3 .left)
 
 pub head-verdict-spec : {M : Type 1} → statement M
 head-verdict-spec =
@@ -54,6 +46,4 @@ head-verdict-spec =
     returns-3
     returns-4
     returns-5
-    returns-6
-    returns-7
-    returns-8)
+    returns-6)

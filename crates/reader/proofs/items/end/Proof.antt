@@ -1,65 +1,15 @@
-use Rattle.base.specs.Tests.{tests}
 use borrow.Author.Needs.{needs}
 use Rattle.reader.proofs.items.end.Statement.{statement}
 use Rattle.reader.proofs.items.end.Tie as tie
 
-enum-told : tie.Need-enum-told
-enum-told c = search needs
-
-enum-told-2 : tie.Need-enum-told-2
-enum-told-2 c = search needs
-
-enum-told-3 : tie.Need-enum-told-3
-enum-told-3 c = search needs
-
-enum-told-4 : tie.Need-enum-told-4
-enum-told-4 c = search needs
-
-enum-told-5 : tie.Need-enum-told-5
-enum-told-5 c = search needs
-
-enum-told-6 : tie.Need-enum-told-6
-enum-told-6 c = search needs
-
-enum-told-7 : tie.Need-enum-told-7
-enum-told-7 c = search needs
+may-end-requires : tie.Need-may-end-requires
+may-end-requires c κs = search needs
 
 returns : tie.Need-returns
-returns c = search (tests, c .enum-told .given .1)
+returns c = simp (← c .before .may-end .ensures, c .if1 .taken)
 
 returns-2 : tie.Need-returns-2
-returns-2 c = search (tests, c .enum-told2 .given .1)
-
-returns-3 : tie.Need-returns-3
-returns-3 c = search needs
-
-returns-4 : tie.Need-returns-4
-returns-4 c = search needs
-
-returns-5 : tie.Need-returns-5
-returns-5 c = search needs
-
-returns-6 : tie.Need-returns-6
-returns-6 c = search needs
-
-returns-7 : tie.Need-returns-7
-returns-7 c = search needs
+returns-2 c = simp (← c .before .may-end .ensures, c .if1 .left)
 
 pub end-spec : {M : Type 1} → statement M
-end-spec =
-    tie.close
-    (tie.spec
-    enum-told
-    enum-told-2
-    enum-told-3
-    enum-told-4
-    enum-told-5
-    enum-told-6
-    enum-told-7
-    returns
-    returns-2
-    returns-3
-    returns-4
-    returns-5
-    returns-6
-    returns-7)
+end-spec = tie.close (tie.spec may-end-requires returns returns-2)

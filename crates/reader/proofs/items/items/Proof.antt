@@ -6,6 +6,9 @@ use Rattle.reader.proofs.items.items.Tie as tie
 start-requires : tie.Need-start-requires
 start-requires c κs = search needs
 
+at-requires : tie.Need-at-requires
+at-requires c κs = search needs
+
 scanned-requires : tie.Need-scanned-requires
 scanned-requires c κs = search needs
 
@@ -14,8 +17,9 @@ end-requires c κs = search needs
 
 returns : tie.Need-returns
 returns c =
-    let a = c .before .before .before .before .args in
-    rw (c .end .ensures, c .before .scanned .ensures, c .before .before .start .ensures) (scan-is (a .d) (a .x) (a .s .now))
+    let s = c .before .before in
+    let a = s .before .before .before .args in
+    rw (c .end .ensures, c .before .scanned .ensures, s .at .ensures, s .before .start .ensures) (scan-is (a .d) (a .x) (a .s .now))
 
 pub items-spec : {M : Type 1} → statement M
-items-spec = tie.close (tie.spec start-requires scanned-requires end-requires returns)
+items-spec = tie.close (tie.spec start-requires at-requires scanned-requires end-requires returns)

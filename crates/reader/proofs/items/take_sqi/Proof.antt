@@ -1,8 +1,11 @@
+use native.Mathlib.Nat.{div-one}
 use Rattle.reader.specs.Scan.{takeSqi}
-use Rattle.base.specs.Tests.{tests}
 use borrow.Author.Needs.{needs}
 use Rattle.reader.proofs.items.take_sqi.Statement.{statement}
 use Rattle.reader.proofs.items.take_sqi.Tie as tie
+
+sqi-free-requires : tie.Need-sqi-free-requires
+sqi-free-requires c κs = search needs
 
 sqi-allowed-requires : tie.Need-sqi-allowed-requires
 sqi-allowed-requires c κs = search needs
@@ -15,12 +18,13 @@ at-requires-2 c κs = search needs
 
 returns : tie.Need-returns
 unfolding takeSqi
-returns c = search (tests, c .at .ensures, c .before .if1 .taken, ← c .before .before .sqi-allowed .ensures)
+returns c = simp (div-one, c .at .ensures, ← c .before .before .sqi-allowed .ensures, ← c .before .before .before .sqi-free .ensures, c .before .if1 .taken)
 
 returns-2 : tie.Need-returns-2
 unfolding takeSqi
-returns-2 c = search (tests, c .at2 .ensures, c .before .if1 .left, ← c .before .before .sqi-allowed .ensures)
+returns-2 c = simp (div-one, c .at2 .ensures, ← c .before .before .sqi-allowed .ensures, ← c .before .before .before .sqi-free .ensures, c .before .if1 .left)
 
 pub take-sqi-spec : {M : Type 1} → statement M
 take-sqi-spec =
-    tie.close (tie.spec sqi-allowed-requires at-requires at-requires-2 returns returns-2)
+    tie.close
+    (tie.spec sqi-free-requires sqi-allowed-requires at-requires at-requires-2 returns returns-2)

@@ -1,12 +1,9 @@
-use Prim.Native.Nat.{ℕ, _%_}
 use mathlib.Core.Path.{_≡_, ap, sym, _∙_}
 use mathlib.Core.Bool.{true, false}
-use native.Mathlib.Omega.{arith}
-use Rattle.packet.specs.Packet.{field, x, afterField, fieldAllowed}
-use Rattle.reader.specs.Reading.{readerRefusals, messageOf}
-use Rattle.reader.specs.Scan.{itemsRead}
-use Rattle.reader.specs.Pieces.{contentAnswer, payloadAnswer, itemsAnswer}
-use Rattle.reader.proofs.PieceByPiece.{items-then-payload}
+use native.Mathlib.Nat.{div-one}
+use Rattle.packet.specs.Packet.{field, afterField, fieldAllowed}
+use Rattle.reader.specs.Reading.{readerRefusals}
+use Rattle.reader.specs.Pieces.{contentAnswer, itemsAnswer}
 use borrow.Author.Needs.{needs}
 use Rattle.reader.proofs.reading.content.Statement.{statement}
 use Rattle.reader.proofs.reading.content.Tie as tie
@@ -39,22 +36,22 @@ items-requires : tie.Need-items-requires
 items-requires c κs = search needs
 
 with-items-requires : tie.Need-with-items-requires
-with-items-requires c κs = search needs
+unfolding afterField
+with-items-requires c κs =
+    let b = c .before in
+    let e = b .before .before .before .before in
+    let p = e .before .before .before .args .p .now in
+    let rest : b .part .result .now ≡ afterField p = b .part .ensures .0 ∙ simp (b .before .before .words-at .ensures, b .before .payload-at .ensures) in
+    c .items .ensures ∙ simp (rest, e .before .field .ensures, div-one)
 
 returns : tie.Need-returns
-unfolding contentAnswer readerRefusals payloadAnswer messageOf afterField
+unfolding contentAnswer itemsAnswer readerRefusals
 returns c =
-    let b = c .before .before in
-    let e = b .before .before .before .before in
+    let e = c .before .before .before .before .before .before in
     let a = e .before .before .before .args in
-    let p = a .p .now in
-    let xbit : e .before .field .result % 2 ≡ x (field p) = omega (arith, e .before .field .ensures) in
-    let rest : b .part .result .now ≡ afterField p = b .part .ensures .0 ∙ simp (b .before .before .words-at .ensures, b .before .payload-at .ensures) in
-    let allowed : fieldAllowed (a .d) (field p) ≡ true = ap (fieldAllowed (a .d)) (sym (e .before .field .ensures)) ∙ sym (e .field-allowed .ensures) ∙ b .before .before .before .if1 .taken in
-    c .with-items .ensures
-    ∙ ap (itemsAnswer p) (c .before .items .ensures ∙ ap (λ (n : ℕ). itemsRead (a .d) n (b .part .result .now)) xbit ∙ ap (itemsRead (a .d) (x (field p))) rest)
-    ∙ items-then-payload (a .d) p
-    ∙ simp allowed
+    let allowed : fieldAllowed (a .d) (field (a .p .now)) ≡ true =
+    ap (fieldAllowed (a .d)) (sym (e .before .field .ensures)) ∙ sym (e .field-allowed .ensures) ∙ c .before .before .before .before .before .if1 .taken in
+    c .with-items .ensures ∙ simp allowed
 
 returns-2 : tie.Need-returns-2
 unfolding contentAnswer readerRefusals

@@ -1,5 +1,5 @@
 use Rattle.packet.specs.Packet.{fieldAllowed}
-use Rattle.base.specs.Tests.{tests}
+use Rattle.base.proofs.Tests.{tests}
 use borrow.Author.Needs.{needs}
 use Rattle.reader.proofs.reading.field_allowed.Statement.{statement}
 use Rattle.reader.proofs.reading.field_allowed.Tie as tie

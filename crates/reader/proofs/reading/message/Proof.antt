@@ -1,4 +1,4 @@
-use Rattle.reader.specs.Reading.{messageWith}
+use Rattle.reader.specs.Reading.{messageOf}
 use borrow.Author.Needs.{needs}
 use Rattle.reader.proofs.reading.message.Statement.{statement}
 use Rattle.reader.proofs.reading.message.Tie as tie
@@ -22,8 +22,8 @@ cast-t15 : tie.Need-cast-t15
 cast-t15 c = search needs
 
 returns : tie.Need-returns
-unfolding messageWith
-returns c = simp (c .number32-at2 .ensures, c .before .number32-at .ensures, c .before .before .number16-at .ensures, c .before .before .before .field .ensures)
+unfolding messageOf
+returns c = simp (c .number32-at2 .ensures, c .before .number32-at .ensures, c .before .before .number16-at .ensures, c .before .before .before .field .ensures, c .before .before .before .before .before .pre)
 
 pub message-spec : {M : Type 1} → statement M
 message-spec =

@@ -1,5 +1,5 @@
 use Rattle.packet.specs.Packet.{payloadAllowed}
-use Rattle.base.specs.Tests.{tests}
+use Rattle.base.proofs.Tests.{tests}
 use borrow.Author.Needs.{needs}
 use Rattle.reader.proofs.reading.payload_allowed.Statement.{statement}
 use Rattle.reader.proofs.reading.payload_allowed.Tie as tie

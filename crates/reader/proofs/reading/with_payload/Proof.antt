@@ -17,7 +17,7 @@ payload-allowed-requires : tie.Need-payload-allowed-requires
 payload-allowed-requires c κs = search needs
 
 message-requires : tie.Need-message-requires
-message-requires c κs = search needs
+message-requires c κs = c .before .before .before .before .before .pre
 
 returns : tie.Need-returns
 unfolding payloadAnswer readerRefusals

@@ -1,5 +1,5 @@
 use borrow.Author.Needs.{needs}
-use Rattle.base.specs.Tests.{tests}
+use Rattle.base.proofs.Tests.{tests}
 use Rattle.show.specs.Lines.{answerLine}
 use Rattle.show.proofs.decoded.answer_line.Statement.{statement}
 use Rattle.show.proofs.decoded.answer_line.Tie as tie

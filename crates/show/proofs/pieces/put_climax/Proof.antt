@@ -1,5 +1,5 @@
 use borrow.Author.Needs.{needs}
-use Rattle.base.specs.Tests.{tests}
+use Rattle.base.proofs.Tests.{tests}
 use Rattle.show.proofs.pieces.put_climax.Statement.{statement}
 use Rattle.show.proofs.pieces.put_climax.Tie as tie
 

@@ -1,5 +1,5 @@
 use borrow.Author.Needs.{needs}
-use Rattle.base.specs.Tests.{tests}
+use Rattle.base.proofs.Tests.{tests}
 use Rattle.text.proofs.Writing.{_then_}
 use Rattle.show.proofs.pieces.put_sqi.Statement.{statement}
 use Rattle.show.proofs.pieces.put_sqi.Tie as tie

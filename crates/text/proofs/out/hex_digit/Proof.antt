@@ -1,5 +1,5 @@
 use borrow.Author.Needs.{needs}
-use Rattle.base.specs.Tests.{tests}
+use Rattle.base.proofs.Tests.{tests}
 use Rattle.text.proofs.out.hex_digit.Statement.{statement}
 use Rattle.text.proofs.out.hex_digit.Tie as tie
 

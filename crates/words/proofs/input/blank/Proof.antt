@@ -1,4 +1,4 @@
-use Rattle.base.specs.Tests.{tests}
+use Rattle.base.proofs.Tests.{tests}
 use Rattle.words.proofs.input.blank.Statement.{statement}
 use Rattle.words.proofs.input.blank.Tie as tie
 

@@ -3,7 +3,7 @@ use mathlib.Core.Path.{ap}
 use native.Mathlib.Omega.{arith}
 use borrow.Author.Tests.{lt-ltb}
 use borrow.Author.Needs.{needs}
-use Rattle.base.specs.Tests.{tests}
+use Rattle.base.proofs.Tests.{tests}
 use Rattle.words.specs.declared.numbers.LevelRead.the-variants as level
 use Rattle.words.proofs.Signs.{fits-32, fits-16, below-zero-is}
 use Rattle.words.proofs.numbers.below_zero.Statement.{statement}

@@ -1,7 +1,7 @@
 use native.Mathlib.Omega.{arith}
 use borrow.Author.Tests.{le-leb, lt-leb}
 use borrow.Author.Needs.{needs}
-use Rattle.base.specs.Tests.{tests}
+use Rattle.base.proofs.Tests.{tests}
 use Rattle.words.specs.Numbers.{digitOf}
 use Rattle.words.proofs.numbers.digit.Statement.{statement}
 use Rattle.words.proofs.numbers.digit.Tie as tie

@@ -1,5 +1,5 @@
 use borrow.Author.Needs.{needs}
-use Rattle.base.specs.Tests.{tests}
+use Rattle.base.proofs.Tests.{tests}
 use Rattle.words.proofs.numbers.half.Statement.{statement}
 use Rattle.words.proofs.numbers.half.Tie as tie
 

@@ -1,5 +1,5 @@
 use borrow.Author.Needs.{needs}
-use Rattle.base.specs.Tests.{tests}
+use Rattle.base.proofs.Tests.{tests}
 use Rattle.words.specs.Pairs.{isHex}
 use Rattle.words.proofs.pairs.hex.Statement.{statement}
 use Rattle.words.proofs.pairs.hex.Tie as tie

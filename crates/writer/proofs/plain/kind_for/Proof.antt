@@ -1,4 +1,4 @@
-use Rattle.base.specs.Tests.{tests}
+use Rattle.base.proofs.Tests.{tests}
 use Rattle.writer.proofs.plain.kind_for.Statement.{statement}
 use Rattle.writer.proofs.plain.kind_for.Tie as tie
 

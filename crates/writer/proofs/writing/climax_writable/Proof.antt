@@ -1,4 +1,4 @@
-use Rattle.base.specs.Tests.{tests}
+use Rattle.base.proofs.Tests.{tests}
 use borrow.Author.Needs.{needs}
 use Rattle.writer.proofs.writing.climax_writable.Statement.{statement}
 use Rattle.writer.proofs.writing.climax_writable.Tie as tie

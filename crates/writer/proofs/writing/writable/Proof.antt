@@ -1,5 +1,5 @@
 use borrow.Author.Tests.{le-leb}
-use Rattle.base.specs.Tests.{tests}
+use Rattle.base.proofs.Tests.{tests}
 use Rattle.writer.specs.Writing.{writable}
 use borrow.Author.Needs.{needs}
 use Rattle.writer.proofs.writing.writable.Statement.{statement}

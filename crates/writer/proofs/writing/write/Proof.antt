@@ -14,17 +14,17 @@ writable-requires c κs = search needs
 fewest-words-requires : tie.Need-fewest-words-requires
 fewest-words-requires c κs = search needs
 
-cast-length : tie.Need-cast-length
-cast-length c = search needs
+cast-needed : tie.Need-cast-needed
+cast-needed c = search needs
 
-mul-length : tie.Need-mul-length
-mul-length c = search needs
+mul-needed : tie.Need-mul-needed
+mul-needed c = search needs
 
-add-length : tie.Need-add-length
-add-length c = search needs
+add-needed : tie.Need-add-needed
+add-needed c = search needs
 
-add-length-2 : tie.Need-add-length-2
-add-length-2 c = search needs
+add-needed-2 : tie.Need-add-needed-2
+add-needed-2 c = search needs
 
 put-packet-requires : tie.Need-put-packet-requires
 put-packet-requires c κs = search needs
@@ -63,10 +63,10 @@ write-spec =
     (tie.spec
     writable-requires
     fewest-words-requires
-    cast-length
-    mul-length
-    add-length
-    add-length-2
+    cast-needed
+    mul-needed
+    add-needed
+    add-needed-2
     put-packet-requires
     same-length
     returns
