@@ -16,7 +16,7 @@ module _ (healthy : Bool) (seats : List Seat) where
   abbrev pub rankNow : ℕ → ℕ
   rankNow n = cond (takesPart healthy (seatOf seats n)) (rank (seatOf seats n .heard .field .ptt)) 0
 
-  -- of the lowest rank, or not keyed: both are 0
+  -- with PTT off its rank is 0, so that it need not be asked whether PTT is on
   stands : (s : Seat) → standingOf healthy s ≡ cond (takesPart healthy s) (rank (s .heard .field .ptt)) 0
   unfolding standing takesPart
   stands s = by-part healthy (s .opened) (not (s .heard .field .pm)) (ltb 0 k) refl

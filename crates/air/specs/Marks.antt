@@ -10,7 +10,7 @@ use Rattle.record.specs.Record.{seatNumbers, noSuchSeat, closedSeat}
 use Rattle.air.specs.Air.{rank, couplingRank, theFirst, among}
 use Rattle.record.specs.declared.seat.Seat.{Seat}
 
--- The rank at which a seat takes part, 0 if it takes none: also that of PTT off is 0.
+-- The rank at which a seat takes part, 0 if it takes none; with PTT off its rank is 0 anyway.
 unfoldable pub standing : (healthy opened muted : Bool) → (ptt : ℕ) → ℕ
 standing healthy opened muted ptt = cond (healthy && opened && not muted) (rank ptt) 0
 

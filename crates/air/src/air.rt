@@ -51,7 +51,7 @@ pub fn keyed(f: Field) -> bool
     if f.pm { false } else { on }
 }
 
-// The rank at which a seat takes part, 0 if it takes none: also that of PTT off is 0.
+// The rank at which a seat takes part, 0 if it takes none; with PTT off its rank is 0 anyway.
 fn standing(healthy: bool, opened: bool, muted: bool, ptt: u8) -> u8
     ensures { λ r. ⌜ r ≡ standing healthy opened muted ptt ⌝ }
 {
