@@ -1,8 +1,4 @@
 // The answer to a call: the library is asked, and what it says is written as a line, with no line end.
-use crate::call::Call;
-use crate::call::Lent;
-use crate::call::ROOM;
-use crate::call::SetupSaid;
 use crate::say::heard_line;
 use crate::say::ok;
 use crate::say::refused;
@@ -18,6 +14,10 @@ use bench::OpenAnswer;
 use bench::PacketAnswer;
 use bench::Request;
 use bench::Setup;
+use grammar::Call;
+use grammar::Lent;
+use grammar::ROOM;
+use grammar::SetupSaid;
 use packet::Rx;
 use packet::RxRead;
 use packet::Tx;
@@ -40,7 +40,7 @@ pub fn answer(b: Bench, call: Call, s: &[u8], bytes: &[u8], out: &mut [u8]) -> S
         Call::Open { seat, request } => open(b, seat, request, out),
         Call::Close(seat) => close(b, seat, out),
         Call::Tick(ms) => tick(b, ms, out),
-        Call::Packet { seat, length } => hear(b, seat, part(bytes, 0, length), out),
+        Call::Packet { seat, count } => hear(b, seat, part(bytes, 0, count), out),
         Call::Report {
             seat,
             timestamp,
@@ -49,8 +49,8 @@ pub fn answer(b: Bench, call: Call, s: &[u8], bytes: &[u8], out: &mut [u8]) -> S
         Call::Received { signals, level } => told(bench::received(b, signals, level), ok(out)),
         Call::Transmitter { healthy } => told(bench::transmitter(b, healthy), ok(out)),
         Call::Side { standby } => side(b, standby, out),
-        Call::ReadTx(length) => told(b, read_tx(b, part(bytes, 0, length), out)),
-        Call::ReadRx(length) => told(b, read_rx(b, part(bytes, 0, length), out)),
+        Call::ReadTx(count) => told(b, read_tx(b, part(bytes, 0, count), out)),
+        Call::ReadRx(count) => told(b, read_rx(b, part(bytes, 0, count), out)),
         Call::WriteTx { message, lent } => told(b, write_tx(b, message, lent, bytes, out)),
         Call::WriteRx { message, lent } => told(b, write_rx(b, message, lent, bytes, out)),
         Call::Help => told(b, help(out)),
@@ -68,8 +68,8 @@ fn fresh(s: SetupSaid) -> Bench {
         lesson,
         ext: s.ext,
         pair: s.pair,
-        summation: s.summation,
-        coupling: s.coupling,
+        summation: s.equal_summation,
+        coupling: s.coupling_summation,
     })
 }
 
