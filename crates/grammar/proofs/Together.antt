@@ -10,11 +10,11 @@ use Rattle.words.specs.Input.{wordOf, lastOf, choiceOf}
 use Rattle.words.specs.Pairs.{bytesSaid, bytesLaid}
 use Rattle.words.specs.declared.pairs.BytesRead.{BytesRead}
 use Rattle.grammar.specs.Said.{Said, Is, Not, _>>=_, countSaid, countIn}
-use Rattle.grammar.specs.Grammar.{plain, packetIn, reportIn, readIn, writeTxIn, writeRxIn, writeLines, writeIn, lines, namedIn, lineIn, orWrong, callIn, bytesIn}
+use Rattle.grammar.specs.Grammar.{plain, setupIn, openIn, packetIn, reportIn, readIn, writeTxIn, writeRxIn, writeLines, writeIn, lines, namedIn, lineIn, orWrong, callIn, bytesIn}
 use Rattle.grammar.specs.declared.call.Call.{Call}
 use Rattle.grammar.specs.declared.call.Call.the-variants as call
 use Rattle.grammar.proofs.Saying.{no-line}
-use Rattle.grammar.specs.Pieces.{lentIn, headIn, keyIn, txIn, rxIn, packetWith, reportWith, readWith, writeTxWith, writeRxWith, writeWith, saidWith, writeBytes, bytesWord}
+use Rattle.grammar.specs.Pieces.{modesIn, requestIn, lentIn, headIn, keyIn, txIn, rxIn, setupWith, openWith, packetWith, reportWith, readWith, writeTxWith, writeRxWith, writeWith, saidWith, writeBytes, bytesWord}
 
 pub then-then : {A B C : Type 0} (m : Said A) (f : A → Said B) (g : B → Said C) → _>>=_ (_>>=_ m f) g ≡ _>>=_ m (λ (a : A). _>>=_ (f a) g)
 unfolding _>>=_
@@ -61,6 +61,14 @@ no-bytes s =
     (λ a b c d. absurd (d refl))
     (λ a b c d. refl)
     (λ n a b c d. refl)
+
+setup-with : (s : List ℕ) → setupWith s ≡ setupIn s
+unfolding setupWith modesIn setupIn
+setup-with s = simp (then-then, is-then)
+
+open-with : (s : List ℕ) → openWith s ≡ openIn s
+unfolding openWith requestIn openIn
+open-with s = simp (then-then, is-then)
 
 module _ (s : List ℕ) (room : ℕ) where
   packet-with : packetWith s (bytesSaid (lastOf s 2) room) ≡ packetIn s room
@@ -111,8 +119,8 @@ module _ (s : List ℕ) (room : ℕ) where
   said-at =
       by-place
       (λ (n : ℕ). saidWith s n (bytesSaid (bytesWord s n) room) ≡ getD (lines s room) n (plain Not) .says)
-      refl
-      refl
+      (setup-with s)
+      (open-with s)
       refl
       refl
       packet-with

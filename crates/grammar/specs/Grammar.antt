@@ -1,5 +1,6 @@
 -- The console's grammar: under each line that `help` prints, the call that such a line says. Words are counted from 0, the call's
 -- name. A word that is not there, or a last word with more behind it, is empty, and an empty word says nothing.
+-- `seat ← byteIn (wordOf s 1)`: the seat is the number that word 1 says; where it says none, the line is no call.
 use Prim.Native.Nat.{ℕ}
 use mathlib.Core.Path.{_≡_, refl}
 use mathlib.Core.Bool.{Bool, true, false, cond}
@@ -7,8 +8,9 @@ use mathlib.Core.List.{List, [], _∷_}
 use lib.Dec.{eqb}
 use lib.ListN.{length, getD}
 use Rattle.words.specs.Text.{text}
-use Rattle.words.specs.Input.{wordOf, lastOf, choiceOf}
-use Rattle.words.specs.Pairs.{bytesLaid}
+use Rattle.words.specs.Input.{wordOf, lastOf, choiceOf, wordAt, leading, firstFrom, same}
+use Rattle.words.specs.Numbers.{numberIn, numberFrom, valueFrom, allDigits, digitOf}
+use Rattle.words.specs.Pairs.{bytesSaid, bytesLaid, saysBytes, isDash, isHex, bytesOf, pairs}
 use Rattle.grammar.specs.Said.{Said, Is, Not, _>>=_, byteIn, halfIn, wholeIn, hexIn, levelIn, countIn, roomIn, oneOf, flagIn, callTypeIn, sideIn, climaxIn, sqiIn, seatsIn}
 use Rattle.grammar.specs.declared.call.Call.{Call}
 use Rattle.grammar.specs.declared.call.Call.the-variants as call
@@ -196,3 +198,27 @@ callIn s room = cond (eqb (length (wordOf s 0)) 0) call.Nothing (orWrong (lineIn
 -- The buffer afterwards: the bytes that the line gives in front, if they can be read; every other byte as it was.
 unfoldable pub bytesIn : List ℕ → (buffer : List ℕ) → List ℕ
 bytesIn s buffer = bytesLaid (lineIn s (length buffer) .bytes) buffer
+
+closes : callIn (text "close 7 # the class") 0 ≡ call.Close 7
+unfolding callIn lineIn namedIn closeIn _>>=_ byteIn lastOf wordOf wordAt leading choiceOf firstFrom same numberIn numberFrom valueFrom allDigits digitOf
+closes = refl
+
+too-large : callIn (text "close 256") 0 ≡ call.Wrong
+unfolding callIn lineIn namedIn closeIn _>>=_ byteIn lastOf wordOf wordAt leading choiceOf firstFrom same numberIn numberFrom valueFrom allDigits digitOf
+too-large = refl
+
+one-too-many : callIn (text "close 7 8") 0 ≡ call.Wrong
+unfolding callIn lineIn namedIn closeIn _>>=_ byteIn lastOf wordOf wordAt leading choiceOf firstFrom same numberIn numberFrom valueFrom allDigits digitOf
+one-too-many = refl
+
+no-words : callIn (text " # close 7") 0 ≡ call.Nothing
+unfolding callIn lineIn namedIn closeIn _>>=_ byteIn lastOf wordOf wordAt leading choiceOf firstFrom same numberIn numberFrom valueFrom allDigits digitOf
+no-words = refl
+
+two-bytes : callIn (text "packet 7 907b") 3 ≡ call.Packet 7 2
+unfolding callIn lineIn namedIn packetIn _>>=_ byteIn countIn bytesSaid saysBytes isDash isHex bytesOf pairs lastOf wordOf wordAt leading choiceOf firstFrom same numberIn numberFrom valueFrom allDigits digitOf
+two-bytes = refl
+
+two-laid : bytesIn (text "packet 7 907b") (0 ∷ 0 ∷ 7 ∷ []) ≡ 144 ∷ 123 ∷ 7 ∷ []
+unfolding bytesIn lineIn namedIn bytesLaid saysBytes isDash isHex bytesOf pairs lastOf wordOf wordAt leading choiceOf firstFrom same allDigits digitOf
+two-laid = refl

@@ -1,13 +1,13 @@
 -- What the private functions promise.
 use Prim.Native.Nat.{ℕ}
-use mathlib.Core.Bool.{Bool}
+use mathlib.Core.Bool.{Bool, true, false}
 use mathlib.Core.List.{List, [], _∷_}
 use lib.ListN.{getD}
 use Rattle.words.specs.Text.{text}
 use Rattle.words.specs.Input.{wordOf, lastOf, choiceOf}
 use Rattle.words.specs.declared.pairs.BytesRead.{BytesRead}
-use Rattle.grammar.specs.Said.{Said, Is, Not, _>>=_, byteIn, halfIn, wholeIn, countSaid, roomIn, oneOf, flagIn, sideIn, climaxIn, sqiIn}
-use Rattle.grammar.specs.Grammar.{plain, setupIn, openIn, closeIn, tickIn, receivedIn, transmitterIn, sideCallIn, helpIn}
+use Rattle.grammar.specs.Said.{Said, Is, Not, _>>=_, byteIn, halfIn, wholeIn, hexIn, countSaid, roomIn, oneOf, callTypeIn, seatsIn, flagIn, sideIn, climaxIn, sqiIn}
+use Rattle.grammar.specs.Grammar.{closeIn, tickIn, receivedIn, transmitterIn, sideCallIn, helpIn}
 use Rattle.grammar.specs.declared.call.Call.{Call}
 use Rattle.grammar.specs.declared.call.Call.the-variants as call
 use Rattle.grammar.specs.declared.call.Lent.{Lent}
@@ -35,12 +35,18 @@ use Rattle.grammar.specs.declared.messages.SideRead.{SideRead}
 use Rattle.grammar.specs.declared.messages.SideRead.the-variants as side
 use Rattle.grammar.specs.declared.messages.SqiRead.{SqiRead}
 use Rattle.grammar.specs.declared.messages.SqiRead.the-variants as sqi
+use Rattle.grammar.specs.declared.call.SetupSaid.{SetupSaid}
+use Rattle.grammar.specs.declared.requests.ModesRead.{ModesRead}
+use Rattle.grammar.specs.declared.requests.ModesRead.the-variants as modes
+use Rattle.grammar.specs.declared.requests.RequestRead.{RequestRead}
+use Rattle.grammar.specs.declared.requests.RequestRead.the-variants as request
 use Rattle.packet.specs.declared.message.ClimaxItem.{ClimaxItem}
 use Rattle.packet.specs.declared.message.SideItem.{SideItem}
 use Rattle.packet.specs.declared.message.SqiItem.{SqiItem}
 use Rattle.packet.specs.declared.message.Tx.{Tx}
 use Rattle.packet.specs.declared.message.Rx.{Rx}
 use Rattle.seats.specs.declared.opening.CallType.{CallType}
+use Rattle.seats.specs.declared.opening.Request.{Request}
 
 -- What the code's answers say.
 abbrev pub boolSaid : BoolRead → Said Bool
@@ -58,6 +64,14 @@ seatsSaid seats.Not = Not
 abbrev pub lentSaid : LentRead → Said Lent
 lentSaid (lent.Is v) = Is v
 lentSaid lent.Not = Not
+
+abbrev pub modesSaid : ModesRead → Said SetupSaid
+modesSaid (modes.Are v) = Is v
+modesSaid modes.Not = Not
+
+abbrev pub requestSaid : RequestRead → Said Request
+requestSaid (request.Is v) = Is v
+requestSaid request.Not = Not
 
 abbrev pub headSaid : HeadRead → Said HeadSaid
 headSaid (head.Is v) = Is v
@@ -88,6 +102,24 @@ rxSaid (rx.Is v) = Is v
 rxSaid rx.Not = Not
 
 -- Several words of a line together.
+unfoldable pub modesIn : List ℕ → Said SetupSaid
+modesIn s = do
+  lessons ← seatsIn (wordOf s 1)
+  ext ← hexIn (wordOf s 2)
+  pair ← oneOf (wordOf s 3) (text "single pair") (false ∷ true ∷ [])
+  equal ← oneOf (wordOf s 4) (text "lockout summation") (false ∷ true ∷ [])
+  coupling ← oneOf (lastOf s 5) (text "interruption summation") (false ∷ true ∷ [])
+  Is (record { lessons = lessons; ext = ext; pair = pair; «equal_summation» = equal; «coupling_summation» = coupling })
+
+unfoldable pub requestIn : List ℕ → Said Request
+requestIn s = do
+  type ← callTypeIn (wordOf s 2)
+  period ← halfIn (wordOf s 3)
+  multiplier ← byteIn (wordOf s 4)
+  ssrc ← wholeIn (wordOf s 5)
+  sequence ← halfIn (lastOf s 6)
+  Is (record { call = type; period = period; multiplier = multiplier; ssrc = ssrc; sequence = sequence })
+
 unfoldable pub lentIn : BytesRead → (size : List ℕ) → Said Lent
 lentIn given size = do
   audio ← countSaid given
@@ -149,6 +181,17 @@ rxIn s = do
     side = side;
   })
 
+unfoldable pub setupWith : List ℕ → Said Call
+setupWith s = do
+  said ← modesIn s
+  Is (call.Setup said)
+
+unfoldable pub openWith : List ℕ → Said Call
+openWith s = do
+  seat ← byteIn (wordOf s 1)
+  request ← requestIn s
+  Is (call.Open seat request)
+
 -- The calls whose bytes were read before.
 unfoldable pub packetWith : List ℕ → BytesRead → Said Call
 packetWith s given = do
@@ -186,8 +229,8 @@ writeWith s given = getD (writeTxWith s given ∷ writeRxWith s given ∷ []) (c
 unfoldable pub saidWith : List ℕ → (name : ℕ) → BytesRead → Said Call
 saidWith s name given =
     getD
-    (setupIn s
-    ∷ openIn s
+    (setupWith s
+    ∷ openWith s
     ∷ closeIn s
     ∷ tickIn s
     ∷ packetWith s given

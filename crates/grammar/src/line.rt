@@ -2,24 +2,22 @@
 // behind it, is empty, and says nothing.
 ghost use mathlib.Core.Path.{_≡_};
 ghost use lib.ListN.{length};
-ghost use Rattle.grammar.specs.Grammar.{namedIn, callIn, bytesIn, orWrong, setupIn, openIn, closeIn, tickIn, receivedIn, transmitterIn, sideCallIn, helpIn};
-ghost use Rattle.grammar.specs.Pieces.{bytesWord, writeBytes, saidWith, packetWith, reportWith, readWith, writeTxWith, writeRxWith, writeWith};
+ghost use Rattle.grammar.specs.Grammar.{namedIn, callIn, bytesIn, orWrong, closeIn, tickIn, receivedIn, transmitterIn, sideCallIn, helpIn};
+ghost use Rattle.grammar.specs.Pieces.{bytesWord, writeBytes, saidWith, setupWith, openWith, packetWith, reportWith, readWith, writeTxWith, writeRxWith, writeWith};
 use crate::call::Call;
-use crate::call::SetupSaid;
 use crate::messages::RxSaid;
 use crate::messages::TxSaid;
 use crate::messages::rx;
 use crate::messages::tx;
 use crate::pieces::BoolRead;
-use crate::pieces::CallTypeRead;
 use crate::pieces::LentRead;
-use crate::pieces::SeatsRead;
-use crate::pieces::call_type;
 use crate::pieces::lent;
-use crate::pieces::seats;
 use crate::pieces::second;
+use crate::requests::ModesRead;
+use crate::requests::RequestRead;
+use crate::requests::modes;
+use crate::requests::request;
 use base::part;
-use seats::Request;
 use words::ByteRead;
 use words::BytesRead;
 use words::HalfRead;
@@ -29,7 +27,6 @@ use words::byte;
 use words::bytes;
 use words::choice;
 use words::half;
-use words::hex_half;
 use words::last;
 use words::level;
 use words::number;
@@ -103,61 +100,24 @@ fn said(s: &[u8], name: usize, given: BytesRead) -> Call
 }
 
 fn setup(s: &[u8]) -> Call
-    ensures { λ r. ⌜ r ≡ orWrong (setupIn (now (s .entry))) ⌝ }
+    ensures { λ r. ⌜ r ≡ orWrong (setupWith (now (s .entry))) ⌝ }
 {
-    let SeatsRead::Are(lessons) = seats(word(s, 1)) else {
-        return Call::Wrong;
-    };
-    let HalfRead::Is(ext) = hex_half(word(s, 2)) else {
-        return Call::Wrong;
-    };
-    let BoolRead::Is(pair) = second(word(s, 3), b"single pair") else {
-        return Call::Wrong;
-    };
-    let BoolRead::Is(equal_summation) = second(word(s, 4), b"lockout summation") else {
-        return Call::Wrong;
-    };
-    let BoolRead::Is(coupling_summation) = second(last(s, 5), b"interruption summation") else {
-        return Call::Wrong;
-    };
-    Call::Setup(SetupSaid {
-        lessons,
-        ext,
-        pair,
-        equal_summation,
-        coupling_summation,
-    })
+    match modes(s) {
+        ModesRead::Are(said) => Call::Setup(said),
+        ModesRead::Not => Call::Wrong,
+    }
 }
 
 fn open(s: &[u8]) -> Call
-    ensures { λ r. ⌜ r ≡ orWrong (openIn (now (s .entry))) ⌝ }
+    ensures { λ r. ⌜ r ≡ orWrong (openWith (now (s .entry))) ⌝ }
 {
     let ByteRead::Is(seat) = byte(word(s, 1)) else {
         return Call::Wrong;
     };
-    let CallTypeRead::Is(call) = call_type(word(s, 2)) else {
-        return Call::Wrong;
-    };
-    let HalfRead::Is(period) = half(word(s, 3)) else {
-        return Call::Wrong;
-    };
-    let ByteRead::Is(multiplier) = byte(word(s, 4)) else {
-        return Call::Wrong;
-    };
-    let NumberRead::Is(ssrc) = number(word(s, 5)) else {
-        return Call::Wrong;
-    };
-    let HalfRead::Is(sequence) = half(last(s, 6)) else {
-        return Call::Wrong;
-    };
-    let request = Request {
-        call,
-        period,
-        multiplier,
-        ssrc,
-        sequence,
-    };
-    Call::Open { seat, request }
+    match request(s) {
+        RequestRead::Is(request) => Call::Open { seat, request },
+        RequestRead::Not => Call::Wrong,
+    }
 }
 
 fn close(s: &[u8]) -> Call

@@ -1,7 +1,7 @@
 use borrow.Author.Needs.{needs}
 use Rattle.grammar.specs.Said.{_>>=_}
-use Rattle.grammar.specs.Grammar.{openIn}
-use Rattle.grammar.proofs.Saying.{byte-says, half-says, whole-says}
+use Rattle.grammar.specs.Pieces.{openWith}
+use Rattle.grammar.proofs.Saying.{byte-says}
 use Rattle.grammar.proofs.line.open.Statement.{statement}
 use Rattle.grammar.proofs.line.open.Tie as tie
 
@@ -18,119 +18,30 @@ enum-told : tie.Need-enum-told
 enum-told c = search needs
 
 returns : tie.Need-returns
-unfolding openIn _>>=_
+unfolding openWith _>>=_
 returns c = simp (c .enum-told .given .1, ← byte-says _ (c .before .before .byte .ensures), ← c .before .before .before .word .ensures .0)
 
-word-requires-2 : tie.Need-word-requires-2
-word-requires-2 c κs = search needs
+request-requires : tie.Need-request-requires
+request-requires c κs = search needs
 
-call-type-requires : tie.Need-call-type-requires
-call-type-requires c κs = search needs
-
-enum-known-call : tie.Need-enum-known-call
-enum-known-call c = search needs
+enum-known-request : tie.Need-enum-known-request
+enum-known-request c = search needs
 
 enum-told-2 : tie.Need-enum-told-2
 enum-told-2 c = search needs
 
 returns-2 : tie.Need-returns-2
-unfolding openIn _>>=_
+unfolding openWith _>>=_
 returns-2 c =
-    let seat = c .before .before .before .before .before in
-    simp (c .enum-told2 .given .1, ← c .before .before .call-type .ensures, ← c .before .before .before .word2 .ensures .0, seat .seat .given .1, ← byte-says _ (seat .before .before .byte .ensures), ← seat .before .before .before .word .ensures .0)
-
-word-requires-3 : tie.Need-word-requires-3
-word-requires-3 c κs = search needs
-
-half-requires : tie.Need-half-requires
-half-requires c κs = search needs
-
-enum-known-period : tie.Need-enum-known-period
-enum-known-period c = search needs
-
-enum-told-3 : tie.Need-enum-told-3
-enum-told-3 c = search needs
+    let request = c .before in
+    let seat = request .before .before .before .before in
+    simp (request .request2 .given .1, ← request .before .before .request .ensures, seat .seat .given .1, ← byte-says _ (seat .before .before .byte .ensures), ← seat .before .before .before .word .ensures .0)
 
 returns-3 : tie.Need-returns-3
-unfolding openIn _>>=_
+unfolding openWith _>>=_
 returns-3 c =
-    let call = c .before .before .before .before .before in
-    let seat = call .before .before .before .before .before in
-    simp (c .enum-told3 .given .1, ← half-says _ (c .before .before .half .ensures), ← c .before .before .before .word3 .ensures .0, call .call .given .1, ← call .before .before .call-type .ensures, ← call .before .before .before .word2 .ensures .0, seat .seat .given .1, ← byte-says _ (seat .before .before .byte .ensures), ← seat .before .before .before .word .ensures .0)
-
-word-requires-4 : tie.Need-word-requires-4
-word-requires-4 c κs = search needs
-
-byte-requires-2 : tie.Need-byte-requires-2
-byte-requires-2 c κs = search needs
-
-enum-known-multiplier : tie.Need-enum-known-multiplier
-enum-known-multiplier c = search needs
-
-enum-told-4 : tie.Need-enum-told-4
-enum-told-4 c = search needs
-
-returns-4 : tie.Need-returns-4
-unfolding openIn _>>=_
-returns-4 c =
-    let period = c .before .before .before .before .before in
-    let call = period .before .before .before .before .before in
-    let seat = call .before .before .before .before .before in
-    simp (c .enum-told4 .given .1, ← byte-says _ (c .before .before .byte2 .ensures), ← c .before .before .before .word4 .ensures .0, period .period .given .1, ← half-says _ (period .before .before .half .ensures), ← period .before .before .before .word3 .ensures .0, call .call .given .1, ← call .before .before .call-type .ensures, ← call .before .before .before .word2 .ensures .0, seat .seat .given .1, ← byte-says _ (seat .before .before .byte .ensures), ← seat .before .before .before .word .ensures .0)
-
-word-requires-5 : tie.Need-word-requires-5
-word-requires-5 c κs = search needs
-
-number-requires : tie.Need-number-requires
-number-requires c κs = search needs
-
-enum-known-ssrc : tie.Need-enum-known-ssrc
-enum-known-ssrc c = search needs
-
-enum-told-5 : tie.Need-enum-told-5
-enum-told-5 c = search needs
-
-returns-5 : tie.Need-returns-5
-unfolding openIn _>>=_
-returns-5 c =
-    let multiplier = c .before .before .before .before .before in
-    let period = multiplier .before .before .before .before .before in
-    let call = period .before .before .before .before .before in
-    let seat = call .before .before .before .before .before in
-    simp (c .enum-told5 .given .1, ← whole-says _ (c .before .before .number .ensures), ← c .before .before .before .word5 .ensures .0, multiplier .multiplier .given .1, ← byte-says _ (multiplier .before .before .byte2 .ensures), ← multiplier .before .before .before .word4 .ensures .0, period .period .given .1, ← half-says _ (period .before .before .half .ensures), ← period .before .before .before .word3 .ensures .0, call .call .given .1, ← call .before .before .call-type .ensures, ← call .before .before .before .word2 .ensures .0, seat .seat .given .1, ← byte-says _ (seat .before .before .byte .ensures), ← seat .before .before .before .word .ensures .0)
-
-last-requires : tie.Need-last-requires
-last-requires c κs = search needs
-
-half-requires-2 : tie.Need-half-requires-2
-half-requires-2 c κs = search needs
-
-enum-known-sequence : tie.Need-enum-known-sequence
-enum-known-sequence c = search needs
-
-enum-told-6 : tie.Need-enum-told-6
-enum-told-6 c = search needs
-
-returns-6 : tie.Need-returns-6
-unfolding openIn _>>=_
-returns-6 c =
-    let ssrc = c .before .before .before .before .before in
-    let multiplier = ssrc .before .before .before .before .before in
-    let period = multiplier .before .before .before .before .before in
-    let call = period .before .before .before .before .before in
-    let seat = call .before .before .before .before .before in
-    simp (c .enum-told6 .given .1, ← half-says _ (c .before .before .half2 .ensures), ← c .before .before .before .last .ensures .0, ssrc .ssrc .given .1, ← whole-says _ (ssrc .before .before .number .ensures), ← ssrc .before .before .before .word5 .ensures .0, multiplier .multiplier .given .1, ← byte-says _ (multiplier .before .before .byte2 .ensures), ← multiplier .before .before .before .word4 .ensures .0, period .period .given .1, ← half-says _ (period .before .before .half .ensures), ← period .before .before .before .word3 .ensures .0, call .call .given .1, ← call .before .before .call-type .ensures, ← call .before .before .before .word2 .ensures .0, seat .seat .given .1, ← byte-says _ (seat .before .before .byte .ensures), ← seat .before .before .before .word .ensures .0)
-
-returns-7 : tie.Need-returns-7
-unfolding openIn _>>=_
-returns-7 c =
-    let sequence = c .before in
-    let ssrc = sequence .before .before .before .before .before in
-    let multiplier = ssrc .before .before .before .before .before in
-    let period = multiplier .before .before .before .before .before in
-    let call = period .before .before .before .before .before in
-    let seat = call .before .before .before .before .before in
-    simp (sequence .sequence .given .1, ← half-says _ (sequence .before .before .half2 .ensures), ← sequence .before .before .before .last .ensures .0, ssrc .ssrc .given .1, ← whole-says _ (ssrc .before .before .number .ensures), ← ssrc .before .before .before .word5 .ensures .0, multiplier .multiplier .given .1, ← byte-says _ (multiplier .before .before .byte2 .ensures), ← multiplier .before .before .before .word4 .ensures .0, period .period .given .1, ← half-says _ (period .before .before .half .ensures), ← period .before .before .before .word3 .ensures .0, call .call .given .1, ← call .before .before .call-type .ensures, ← call .before .before .before .word2 .ensures .0, seat .seat .given .1, ← byte-says _ (seat .before .before .byte .ensures), ← seat .before .before .before .word .ensures .0)
+    let seat = c .before .before .before .before in
+    simp (c .enum-told2 .given .1, ← c .before .before .request .ensures, seat .seat .given .1, ← byte-says _ (seat .before .before .byte .ensures), ← seat .before .before .before .word .ensures .0)
 
 pub open-spec : {M : Type 1} → statement M
 open-spec =
@@ -141,29 +52,8 @@ open-spec =
     enum-known-seat
     enum-told
     returns
-    word-requires-2
-    call-type-requires
-    enum-known-call
+    request-requires
+    enum-known-request
     enum-told-2
     returns-2
-    word-requires-3
-    half-requires
-    enum-known-period
-    enum-told-3
-    returns-3
-    word-requires-4
-    byte-requires-2
-    enum-known-multiplier
-    enum-told-4
-    returns-4
-    word-requires-5
-    number-requires
-    enum-known-ssrc
-    enum-told-5
-    returns-5
-    last-requires
-    half-requires-2
-    enum-known-sequence
-    enum-told-6
-    returns-6
-    returns-7)
+    returns-3)
