@@ -1,8 +1,4 @@
 // The answer to a call: the library is asked, and what it says is written as a line, with no line end.
-use crate::call::Call;
-use crate::call::Lent;
-use crate::call::ROOM;
-use crate::call::SetupSaid;
 use crate::say::heard_line;
 use crate::say::ok;
 use crate::say::refused;
@@ -18,6 +14,10 @@ use bench::OpenAnswer;
 use bench::PacketAnswer;
 use bench::Request;
 use bench::Setup;
+use grammar::Call;
+use grammar::Lent;
+use grammar::ROOM;
+use grammar::SetupSaid;
 use packet::Rx;
 use packet::Tx;
 use reader::RxRead;
@@ -35,12 +35,11 @@ pub struct Said {
 // `bytes` has the bytes that the line gave; the line itself says what was expected where it is no call.
 pub fn answer(b: Bench, call: Call, s: &[u8], bytes: &[u8], out: &mut [u8]) -> Said {
     match call {
-        Call::Nothing => told(b, 0),
         Call::Setup(setup) => told(fresh(setup), ok(out)),
         Call::Open { seat, request } => open(b, seat, request, out),
         Call::Close(seat) => close(b, seat, out),
         Call::Tick(ms) => tick(b, ms, out),
-        Call::Packet { seat, length } => hear(b, seat, part(bytes, 0, length), out),
+        Call::Packet { seat, count } => hear(b, seat, part(bytes, 0, count), out),
         Call::Report {
             seat,
             timestamp,
@@ -49,12 +48,35 @@ pub fn answer(b: Bench, call: Call, s: &[u8], bytes: &[u8], out: &mut [u8]) -> S
         Call::Received { signals, level } => told(bench::received(b, signals, level), ok(out)),
         Call::Transmitter { healthy } => told(bench::transmitter(b, healthy), ok(out)),
         Call::Side { standby } => side(b, standby, out),
-        Call::ReadTx(length) => told(b, read_tx(b, part(bytes, 0, length), out)),
-        Call::ReadRx(length) => told(b, read_rx(b, part(bytes, 0, length), out)),
-        Call::WriteTx { message, lent } => told(b, write_tx(b, message, lent, bytes, out)),
-        Call::WriteRx { message, lent } => told(b, write_rx(b, message, lent, bytes, out)),
-        Call::Help => told(b, help(out)),
-        Call::Wrong => told(b, expected(out, s)),
+        Call::Nothing
+        | Call::ReadTx(_)
+        | Call::ReadRx(_)
+        | Call::WriteTx { .. }
+        | Call::WriteRx { .. }
+        | Call::Help
+        | Call::Wrong => told(b, line(b.setup.ext, call, s, bytes, out)),
+    }
+}
+
+// The answer to a call that leaves the bench as it is; the calls of the bench are answered above.
+fn line(ext: u16, call: Call, s: &[u8], bytes: &[u8], out: &mut [u8]) -> usize {
+    match call {
+        Call::ReadTx(count) => read_tx(ext, part(bytes, 0, count), out),
+        Call::ReadRx(count) => read_rx(ext, part(bytes, 0, count), out),
+        Call::WriteTx { message, lent } => write_tx(ext, message, lent, bytes, out),
+        Call::WriteRx { message, lent } => write_rx(ext, message, lent, bytes, out),
+        Call::Help => help(out),
+        Call::Wrong => expected(out, s),
+        Call::Nothing
+        | Call::Setup(_)
+        | Call::Open { .. }
+        | Call::Close(_)
+        | Call::Tick(_)
+        | Call::Packet { .. }
+        | Call::Report { .. }
+        | Call::Received { .. }
+        | Call::Transmitter { .. }
+        | Call::Side { .. } => 0,
     }
 }
 
@@ -68,8 +90,8 @@ fn fresh(s: SetupSaid) -> Bench {
         lesson,
         ext: s.ext,
         pair: s.pair,
-        equal_summation: s.summation,
-        coupling_summation: s.coupling,
+        equal_summation: s.equal_summation,
+        coupling_summation: s.coupling_summation,
     })
 }
 
@@ -157,44 +179,30 @@ fn report(b: Bench, seat: u8, timestamp: u32, lent: Lent, bytes: &[u8], out: &mu
     told(bench, written_line(out, answer, &buffer))
 }
 
-fn read_tx(b: Bench, p: &[u8], out: &mut [u8]) -> usize {
-    let setup = b.setup;
-    match reader::read_tx(setup.ext, p) {
+fn read_tx(ext: u16, p: &[u8], out: &mut [u8]) -> usize {
+    match reader::read_tx(ext, p) {
         TxRead::Refused(r) => refused(out, r),
         TxRead::Message(m) => show::tx_line(out, m, payload(p).len()),
     }
 }
 
-fn read_rx(b: Bench, p: &[u8], out: &mut [u8]) -> usize {
-    let setup = b.setup;
-    match reader::read_rx(setup.ext, p) {
+fn read_rx(ext: u16, p: &[u8], out: &mut [u8]) -> usize {
+    match reader::read_rx(ext, p) {
         RxRead::Refused(r) => refused(out, r),
         RxRead::Message(m) => show::rx_line(out, m, payload(p).len()),
     }
 }
 
-fn write_tx(b: Bench, m: Tx, lent: Lent, bytes: &[u8], out: &mut [u8]) -> usize {
-    let setup = b.setup;
+fn write_tx(ext: u16, m: Tx, lent: Lent, bytes: &[u8], out: &mut [u8]) -> usize {
     let room = least(lent.room, ROOM);
     let mut buffer = [0u8; ROOM];
-    let written = writer::write_tx(
-        setup.ext,
-        m,
-        part(bytes, 0, lent.audio),
-        &mut buffer[0..room],
-    );
+    let written = writer::write_tx(ext, m, part(bytes, 0, lent.audio), &mut buffer[0..room]);
     written_line(out, written, &buffer)
 }
 
-fn write_rx(b: Bench, m: Rx, lent: Lent, bytes: &[u8], out: &mut [u8]) -> usize {
-    let setup = b.setup;
+fn write_rx(ext: u16, m: Rx, lent: Lent, bytes: &[u8], out: &mut [u8]) -> usize {
     let room = least(lent.room, ROOM);
     let mut buffer = [0u8; ROOM];
-    let written = writer::write_rx(
-        setup.ext,
-        m,
-        part(bytes, 0, lent.audio),
-        &mut buffer[0..room],
-    );
+    let written = writer::write_rx(ext, m, part(bytes, 0, lent.audio), &mut buffer[0..room]);
     written_line(out, written, &buffer)
 }

@@ -1,11 +1,7 @@
 // The class's console: one call a line on standard input, one answer a line on standard output, over the whole library.
-// A line goes from session.rt to parse.rt, which makes a call of it (call.rt), and to answer.rt, which asks the library and
-// writes what it says (say.rt). usage.rt has the calls as they are to be written.
+// session.rt has a line read by the crate grammar, which makes a call of it, and answered by answer.rt, which asks the library
+// and writes what it says (say.rt). usage.rt has the calls as they are to be written.
 mod answer;
-mod call;
-mod messages;
-mod parse;
-mod pieces;
 mod say;
 mod session;
 mod usage;

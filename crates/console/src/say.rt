@@ -1,9 +1,9 @@
 // The lines of answers, with no line end.
 ghost use Prim.Native.Nat.{_<_};
-use crate::call::ROOM;
 use base::part;
 use bench::Hearing;
 use bench::SeatSets;
+use grammar::ROOM;
 use packet::Refusal;
 use show::refusal_line;
 use text::put;

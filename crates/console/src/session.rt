@@ -1,9 +1,9 @@
 // Lines, however the input comes in pieces.
 use crate::answer::answer;
-use crate::parse::parsed;
 use crate::usage::too_long;
 use base::part;
 use bench::Bench;
+use grammar::parsed;
 use libc::STDIN_FILENO;
 use libc::STDOUT_FILENO;
 use text::put_byte;

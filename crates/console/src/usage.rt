@@ -1,19 +1,10 @@
 // The calls as they are to be written, for `help` and for what a wrong line is told.
+use grammar::named;
 use text::put;
 use text::put_byte;
-use words::choice;
-use words::word;
 
 // How many calls there are.
 const CALLS: usize = 12;
-
-// Which call the first word of a line names, in the order of `usage`; CALLS or more where it names none.
-pub fn named(s: &[u8]) -> usize {
-    choice(
-        word(s, 0),
-        b"setup open close tick packet report received transmitter side read write help",
-    )
-}
 
 fn usage(out: &mut [u8], at: usize, call: usize) -> usize {
     match call {

@@ -17,6 +17,7 @@ use Rattle.bench.proofs as bench
 use Rattle.text.proofs as text
 use Rattle.words.proofs as words
 use Rattle.show.proofs as show
+use Rattle.grammar.proofs as grammar
 
 -- Any two results that satisfy the promise coincide: of the same arguments (and lifetimes k), whatever is seen at exit.
 abbrev pub OneResult : {K : Type 0} {A R E : K → Type 0} → (promise : (k : K) → A k → R k → E k → Type 0) → Type 0
@@ -127,7 +128,11 @@ pub record TightShow : Type 1 where
   pub answer-line : OneResultAndBuffer show.answer_line.Reads.Learnt (λ k e. e .0)
   pub decode : OneResultAndBuffer show.decode.Reads.Learnt (λ k e. e .0)
 
--- All 71.
+pub record TightGrammar : Type 1 where
+  pub named : OneResult grammar.named.Reads.Learnt
+  pub parsed : OneResultAndBuffer grammar.parsed.Reads.Learnt (λ k e. e .1 .0)
+
+-- All 73.
 pub record Tight : Type 1 where
   pub base : TightBase
   pub packet : TightPacket
@@ -140,3 +145,4 @@ pub record Tight : Type 1 where
   pub text : TightText
   pub words : TightWords
   pub show : TightShow
+  pub grammar : TightGrammar

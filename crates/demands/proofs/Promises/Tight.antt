@@ -13,7 +13,7 @@ use Rattle.seats.specs.declared.answer.Done.{Done}
 use Rattle.seats.specs.declared.ticking.Ticked.{Ticked}
 use Rattle.bench.specs.declared.hearing.Packeted.{Packeted}
 use Rattle.bench.specs.declared.reporting.Reported.{Reported}
-use Rattle.demands.specs.Tight.{TightBase, TightPacket, TightReader, TightWriter, TightRecord, TightSeats, TightAir, TightBench, TightText, TightWords, TightShow, Tight}
+use Rattle.demands.specs.Tight.{TightBase, TightPacket, TightReader, TightWriter, TightRecord, TightSeats, TightAir, TightBench, TightText, TightWords, TightShow, TightGrammar, Tight}
 use Rattle.seats.proofs.TellApart.{open-tells, done-tells}
 use Rattle.bench.proofs.TellApart.{packet-tells}
 
@@ -166,6 +166,12 @@ tight-show = record {
   decode = λ k a r s d e. written;
 }
 
+pub tight-grammar : TightGrammar
+tight-grammar = record {
+  named = λ k a r s d e. meet;
+  parsed = λ k a r s d e p q. (meet (p .0) (q .0), meet (p .1) (q .1));
+}
+
 pub tight : Tight
 tight = record {
   base = tight-base;
@@ -179,4 +185,5 @@ tight = record {
   text = tight-text;
   words = tight-words;
   show = tight-show;
+  grammar = tight-grammar;
 }

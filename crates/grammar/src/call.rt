@@ -1,7 +1,7 @@
 // What a line says.
-use bench::Request;
 use packet::Rx;
 use packet::Tx;
+use seats::Request;
 
 // Bytes that the line gives, a packet or audio, lie in a buffer apart; here is how many they are.
 pub enum Call {
@@ -16,7 +16,7 @@ pub enum Call {
     Tick(u16),
     Packet {
         seat: u8,
-        length: usize,
+        count: usize,
     },
     Report {
         seat: u8,
@@ -53,8 +53,8 @@ pub struct SetupSaid {
     pub lessons: u8,
     pub ext: u16,
     pub pair: bool,
-    pub summation: bool,
-    pub coupling: bool,
+    pub equal_summation: bool,
+    pub coupling_summation: bool,
 }
 
 // The size of the largest buffer that is lent to a writer.

@@ -1,0 +1,4 @@
+pub mod Saying
+pub mod Seats
+pub mod Parts
+pub mod Together
