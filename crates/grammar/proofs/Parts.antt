@@ -19,7 +19,7 @@ use Rattle.grammar.specs.declared.messages.SideRead.{SideRead}
 use Rattle.grammar.specs.declared.messages.SideRead.the-variants as side
 use Rattle.grammar.specs.declared.messages.SqiRead.{SqiRead}
 use Rattle.grammar.specs.declared.messages.SqiRead.the-variants as sqi
-use Rattle.grammar.specs.Said.{Said, Is, _>>=_, flagIn, sideIn, sqiIn}
+use Rattle.grammar.specs.Said.{Is, _>>=_, flagIn, sideIn, sqiIn}
 use Rattle.grammar.specs.Pieces.{boolSaid, headSaid, headIn, keySaid, keyIn, sideSaid, sqiSaid, rxIn}
 
 pub head-is : (s : List ℕ) {r : HeadRead} {v : HeadSaid} → headSaid r ≡ headIn s → r ≡ head.Is v → headIn s ≡ Is v

@@ -14,7 +14,7 @@ use Rattle.words.specs.declared.numbers.NumberRead.{NumberRead}
 use Rattle.words.specs.declared.numbers.HalfRead.{HalfRead}
 use Rattle.words.specs.declared.numbers.ByteRead.{ByteRead}
 use Rattle.words.specs.declared.numbers.LevelRead.{LevelRead}
-use Rattle.grammar.specs.Said.{Said, Is, Not, byteSaid, byteIn, halfSaid, halfIn, wholeSaid, wholeIn, hexIn, levelSaid, levelIn, valueAt}
+use Rattle.grammar.specs.Said.{Not, byteSaid, byteIn, halfSaid, halfIn, wholeSaid, wholeIn, hexIn, levelSaid, levelIn, valueAt}
 
 pub byte-says : {r : ByteRead} (w : List ℕ) → r ≡ byteOf (numberIn 10 w) → byteSaid r ≡ byteIn w
 unfolding byteIn
@@ -39,9 +39,6 @@ level-says w e = ap levelSaid e
 -- The place that the code found is that of the word itself.
 pub chosen : {n : ℕ} {w word : List ℕ} (list : List ℕ) → n ≡ choiceOf w list → w ≡ word → n ≡ choiceOf word list
 chosen list e h = e ∙ ap (λ (w : List ℕ). choiceOf w list) h
-
-pub value-at : {A : Type 0} (l : List A) {n m k : ℕ} → n ≡ k → n ≡ m → valueAt l k ≡ valueAt l m
-value-at l t e = ap (valueAt l) (sym t ∙ e)
 
 -- None stands behind the last.
 value-past : {A : Type 0} (l : List A) (n : ℕ) → length l ≤ n → Not ≡ valueAt l n

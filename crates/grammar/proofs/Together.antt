@@ -9,7 +9,7 @@ use Rattle.base.specs.Text.{text}
 use Rattle.words.specs.Input.{wordOf, lastOf, choiceOf}
 use Rattle.words.specs.Pairs.{bytesSaid, bytesLaid}
 use Rattle.words.specs.declared.pairs.BytesRead.{BytesRead}
-use Rattle.grammar.specs.Said.{Said, Is, Not, _>>=_, countSaid, countIn}
+use Rattle.grammar.specs.Said.{Said, Is, Not, _>>=_, countIn}
 use Rattle.grammar.specs.Grammar.{plain, setupIn, openIn, packetIn, reportIn, readIn, writeTxIn, writeRxIn, writeLines, writeIn, lines, namedIn, lineIn, orWrong, callIn, bytesIn}
 use Rattle.grammar.specs.declared.call.Call.{Call}
 use Rattle.grammar.specs.declared.call.Call.the-variants as call

@@ -7,7 +7,7 @@ use lib.Dec.{eqb, ltb}
 use lib.IntN.{ℤ}
 use lib.ListN.{length, take, drop}
 use Rattle.base.specs.Text.{text}
-use Rattle.words.specs.Input.{choiceOf, placeOf, wordOf, leading, firstFrom, same}
+use Rattle.words.specs.Input.{choiceOf, placeOf, leading, same}
 use Rattle.words.specs.Numbers.{numberIn, halfOf, byteOf, levelOf, within}
 use Rattle.words.specs.Pairs.{isDash, bytesSaid}
 use Rattle.words.specs.declared.numbers.NumberRead.{NumberRead}

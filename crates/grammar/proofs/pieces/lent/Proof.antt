@@ -1,4 +1,4 @@
-use borrow.Author.Tests.{lt-ltb, le-ltb, le-leb, lt-leb, eq-eqb, ne-eqb}
+use borrow.Author.Tests.{lt-ltb, le-ltb}
 use Rattle.grammar.proofs.Saying.{half-says}
 use Rattle.grammar.specs.Pieces.{lentIn}
 use Rattle.grammar.specs.Said.{_>>=_, roomIn}
