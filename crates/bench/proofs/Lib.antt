@@ -1,3 +1,4 @@
+pub mod Placed
 pub mod Accepted
 pub mod Sides
 pub mod PacketSteps

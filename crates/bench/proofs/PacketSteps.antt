@@ -1,11 +1,11 @@
 -- The packet's call in steps: 13 and 14, then the reader's 1 to 12, then 19 to 23 of the message.
 use Prim.Native.Nat.{ℕ, _+_, _≤_, _<_, min}
-use mathlib.Core.Path.{_≡_, ap, sym, _∙_}
-use mathlib.Core.Bool.{Bool, cond, not}
+use mathlib.Core.Path.{_≡_, refl, ap, sym, _∙_}
+use mathlib.Core.Bool.{Bool, true, false, cond, not}
 use mathlib.Core.List.{List, [], _++_}
 use native.Mathlib.Omega.{arith}
 use borrow.Author.Tests.{le-leb, lt-leb}
-use lib.ListN.{length}
+use lib.ListN.{length, getD}
 use Rattle.base.specs.Bytes.{partOf}
 use Rattle.base.specs.Order.{missing}
 use Rattle.packet.specs.Packet.{payload, payloadAt}
@@ -20,15 +20,16 @@ use Rattle.reader.specs.declared.reading.TxRead.{TxRead}
 use Rattle.reader.specs.declared.reading.TxRead.the-variants as tx
 use Rattle.packet.proofs.Judged.{andThen, judged-mapped, by-verdict, meets-none, judged-split}
 use Rattle.reader.proofs.Passed.{Passed, length-most}
-use Rattle.record.specs.Record.{seatOf}
+use Rattle.record.specs.Record.{noSuchSeat, closedSeat, seatOf}
 use Rattle.seats.specs.Opening.{seatRefusals, seatVerdict}
 use Rattle.bench.specs.Hearing.{fieldHeard, messageIn, messageRefusals, packetRefusals, packetSaid, heardBench, sameField, isOnAir, isSent, hearing, audioIn, audioAt}
-use Rattle.bench.specs.Pieces.{Whole, messageVerdict, letIn, admitted}
+use Rattle.bench.specs.Pieces.{Whole, placeOf, messageVerdict, letIn, admitted}
 use Rattle.record.specs.declared.setup.Setup.{Setup}
 use Rattle.record.specs.declared.seat.Field.{Field}
 use Rattle.record.specs.declared.seat.Seat.{Seat}
 use Rattle.record.specs.declared.whole.Bench.{Bench}
 use Rattle.bench.specs.declared.hearing.Hearing.{Hearing}
+use Rattle.bench.proofs.Placed.{placed}
 use Rattle.bench.proofs.Accepted.{PacketAccepted, packet-accepted}
 
 -- ---- what passing a test leaves
@@ -89,13 +90,26 @@ module _ (setup : Setup) (n : ℕ) (s : Seat) (m : Tx) where
 
 -- ---- the whole call, by what was admitted
 
-module _ (b : Bench) (n : ℕ) (p : List ℕ) (s : Seat) (here : s ≡ seatOf (b .seats) n) (t : TxRead) (told : txAnswer t ≡ admitted (b .setup) n s p) where
+-- where 13 comes, the seat is not asked
+same-admitted : (setup : Setup) (n : ℕ) (s seat : Seat) (p : List ℕ) → (noSuchSeat n ≡ false → s ≡ seat) → admitted setup n s p ≡ admitted setup n seat p
+same-admitted setup n s seat p same = by-case (noSuchSeat n) refl
+  where
+    by-case : (none : Bool) → noSuchSeat n ≡ none → admitted setup n s p ≡ admitted setup n seat p
+    by-case true e = unfold admitted packetRefusals seatRefusals in simp e
+    by-case false e = ap (λ (z : Seat). admitted setup n z p) (same e)
+
+-- s is what stands at the place of seat n
+module _ (b : Bench) (n : ℕ) (p : List ℕ) (s : Seat) (i : ℕ) (at-place : i ≡ placeOf n) (stands : s ≡ getD (b .seats) i closedSeat)
+    (t : TxRead) (told : txAnswer t ≡ admitted (b .setup) n s p) where
+  here : noSuchSeat n ≡ false → s ≡ seatOf (b .seats) n
+  here real = placed (b .seats) n i at-place stands real
+
   abbrev refusals : List Case
   refusals = packetRefusals (b .setup) n (seatOf (b .seats) n) p
 
   judged-here : judged refusals (messageIn p) ≡ txAnswer t
   unfolding admitted
-  judged-here = sym (told ∙ ap (λ (z : Seat). admitted (b .setup) n z p) here)
+  judged-here = sym (told ∙ same-admitted (b .setup) n s (seatOf (b .seats) n) p here)
 
   pub packet-refused : {r : Refusal} → t ≡ tx.Refused r → packetSaid b n p ≡ refusal r
   unfolding packetSaid
@@ -111,6 +125,9 @@ module _ (b : Bench) (n : ℕ) (p : List ℕ) (s : Seat) (here : s ≡ seatOf (b
 
     pub taken : PacketAccepted (b .setup) n (seatOf (b .seats) n) p
     taken = packet-accepted (b .setup) n (seatOf (b .seats) n) p (met .0)
+
+    pub seen : s ≡ seatOf (b .seats) n
+    seen = here (taken .is-seat)
 
     pub is-whole : Whole p
     is-whole = whole (b .setup .ext) p (taken .was-read)

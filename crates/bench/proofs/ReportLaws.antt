@@ -73,6 +73,15 @@ module _ (n : ℕ) (opened : Bool) (signals audio : ℕ) where
         → cond barred (refused 25 0) (accepted tt) ≡ reportVerdict n opened signals audio
     by-audio barred f g = sym (verdict-in-steps ∙ simp (← e, f, g))
 
+-- where 13 comes, the seat is not asked
+same-verdict : (n : ℕ) (opened other : Bool) (signals audio : ℕ) → (noSuchSeat n ≡ false → opened ≡ other)
+    → reportVerdict n opened signals audio ≡ reportVerdict n other signals audio
+same-verdict n opened other signals audio same = by-case (noSuchSeat n) refl
+  where
+    by-case : (none : Bool) → noSuchSeat n ≡ none → reportVerdict n opened signals audio ≡ reportVerdict n other signals audio
+    by-case true e = unfold reportVerdict seatRefusals in simp e
+    by-case false e = ap (λ (o : Bool). reportVerdict n o signals audio) (same e)
+
 module _ (b : Bench) (n timestamp : ℕ) (sound : List ℕ) (room : ℕ) where
   in-steps : reportSaid b n timestamp sound room
       ≡ andThen (reportVerdict n (seatOf (b .seats) n .opened) (b .signals) (length sound))
@@ -82,16 +91,18 @@ module _ (b : Bench) (n timestamp : ℕ) (sound : List ℕ) (room : ℕ) where
       judged-split (seatRefusals n (seatOf (b .seats) n .opened) ++ (25 if audioBarred (b .signals) (length sound) ∷ []))
       (26 if ltb room (length (reportBytes b n timestamp sound)) ∷ []) (length (reportBytes b n timestamp sound))
 
-  module _ {opened : Bool} {v : Verdict} (here : opened ≡ seatOf (b .seats) n .opened) (told : verdictOf v ≡ reportVerdict n opened (b .signals) (length sound)) where
+  -- opened is what stands at the place of seat n
+  module _ {opened : Bool} {v : Verdict} (here : noSuchSeat n ≡ false → opened ≡ seatOf (b .seats) n .opened)
+      (told : verdictOf v ≡ reportVerdict n opened (b .signals) (length sound)) where
     pub report-refused : {r : Refusal} → v ≡ Refused r → reportSaid b n timestamp sound room ≡ refusal r
-    report-refused f = in-steps ∙ simp (← here, ← told, f)
+    report-refused f = in-steps ∙ simp (← same-verdict n opened _ (b .signals) (length sound) here, ← told, f)
 
     pub report-written : v ≡ Fine → reportSaid b n timestamp sound room ≡ write (b .setup .ext) (fromRx (reportOf b n timestamp)) sound room
     unfolding reportBytes write writerRefusals
     report-written f =
         let passed = report-passed n opened (b .signals) (length sound) f told in
         let fine = report-writable b n timestamp (length sound) (passed .0) (passed .1) in
-        in-steps ∙ simp (← here, ← told, f, fine)
+        in-steps ∙ simp (← same-verdict n opened _ (b .signals) (length sound) here, ← told, f, fine)
 
 module _ (b : Bench) (n timestamp : ℕ) (sound buffer : List ℕ) where
   pub buffer-kept : {k cause : ℕ} → reportSaid b n timestamp sound (length buffer) ≡ refused k cause → reportBuffer b n timestamp sound buffer ≡ buffer

@@ -1,12 +1,13 @@
 -- What the private functions of the packet's call and of the report's answer: pieces of the definitions in Hearing.antt and
 -- Reporting.antt, cited by their promises alone.
-use Prim.Native.Nat.{ℕ, _≤_}
-use mathlib.Core.Bool.{Bool}
+use Prim.Native.Nat.{ℕ, _-_, _≤_}
+use mathlib.Core.Bool.{Bool, cond}
 use mathlib.Core.List.{List, [], _∷_, _++_}
 use lib.ListN.{length}
 use Rattle.packet.specs.Packet.{payloadAt}
 use Rattle.packet.specs.Refusals.{_if_, Answer, judged}
 use Rattle.packet.specs.declared.message.Tx.{Tx}
+use Rattle.record.specs.Record.{noSuchSeat}
 use Rattle.seats.specs.Opening.{seatRefusals}
 use Rattle.bench.specs.Hearing.{messageIn, messageRefusals, packetRefusals}
 use Rattle.bench.specs.Reporting.{audioBarred}
@@ -17,6 +18,10 @@ use Rattle.record.specs.declared.seat.Seat.{Seat}
 pub record Whole (p : List ℕ) : Type 0 where
   pub words : payloadAt p ≤ length p
   pub short : length p ≤ 376
+
+-- where the seat of a number stands; 0 for what is no seat's number
+abbrev pub placeOf : (n : ℕ) → ℕ
+placeOf n = cond (noSuchSeat n) 0 (n - 1)
 
 -- 19 to 23, of a message that was read
 unfoldable pub messageVerdict : Setup → (n : ℕ) → Seat → Tx → Answer (Unit {0})

@@ -12,6 +12,7 @@ ghost use Rattle.bench.specs.Pieces.{Whole, admitted, letIn};
 use crate::admission::message_verdict;
 use crate::memory::field_heard;
 use crate::memory::heard_bench;
+use crate::memory::place;
 use crate::memory::same_field;
 use air::air::bench_air;
 use base::missing;
@@ -25,7 +26,6 @@ use reader::read_tx;
 use record::Bench;
 use record::Seat;
 use record::Setup;
-use record::seat_of;
 use seats::opening::seat_verdict;
 
 // What an accepted packet answers: packets missing before it, whether to reply now, the side in use after it, and where the
@@ -54,9 +54,9 @@ pub fn packet(b: Bench, n: u8, p: &[u8]) -> Packeted
     ensures answer { λ r. ⌜ packetAnswer (r .answer) ≡ packetSaid b n (now (p .entry)) ⌝ }
     ensures bench { λ r. ⌜ r .bench ≡ settled (packetSaid b n (now (p .entry))) b (heardBench b n (messageIn (now (p .entry)))) ⌝ }
 {
-    let seats = b.seats;
     let setup = b.setup;
-    let s = seat_of(seats, n);
+    let i = place(n);
+    let s = b.seats[i];
     let told = admitted(setup, n, s, p);
     match told {
         TxRead::Refused(r) => Packeted {
@@ -64,7 +64,7 @@ pub fn packet(b: Bench, n: u8, p: &[u8]) -> Packeted
             answer: PacketAnswer::Refused(r),
         },
         TxRead::Message(m) => {
-            let after = heard_bench(b, n, m);
+            let after = heard_bench(b, n, s, m);
             let sent = on_air(after, n);
             let heard = s.heard;
             let old = heard.field;

@@ -1,7 +1,9 @@
 // What an accepted message leaves: what its seat keeps of it, the side in use, and the bench after it.
 ghost use mathlib.Core.Path.{_≡_};
 ghost use mathlib.Core.Bool.{false};
-ghost use Rattle.record.specs.Record.{noSuchSeat};
+ghost use Prim.Native.Nat.{_<_};
+ghost use Rattle.record.specs.Record.{noSuchSeat, seatOf};
+ghost use Rattle.bench.specs.Pieces.{placeOf};
 ghost use Rattle.bench.specs.Hearing.{hasDelay, delayOf, hasSide, isStandby, fieldHeard, heardSeat, sameField, takesEffect, sideAfter, heardBench};
 use air::order::order_after;
 use packet::ClimaxItem;
@@ -11,16 +13,21 @@ use record::Bench;
 use record::Field;
 use record::Heard;
 use record::Seat;
-use record::seat_of;
+use record::no_such_seat;
 
-// The bench after an accepted message.
-pub fn heard_bench(b: Bench, n: u8, m: Tx) -> Bench
-    requires { ⌜ noSuchSeat n ≡ false ⌝ }
+// Where the seat of a number stands; 0 for what is no seat's number, of which nobody asks more than 13.
+pub fn place(n: u8) -> usize
+    ensures { λ r. ⌜ (r ≡ placeOf n) × (r < 8) ⌝ }
+{
+    if no_such_seat(n) { 0 } else { (n - 1) as usize }
+}
+
+// The bench after an accepted message, s being the seat before it.
+pub fn heard_bench(b: Bench, n: u8, s: Seat, m: Tx) -> Bench
+    requires { ⌜ (noSuchSeat n ≡ false) × (s ≡ seatOf (b .seats) n) ⌝ }
     ensures { λ r. ⌜ r ≡ heardBench b n m ⌝ }
 {
-    let seats = b.seats;
     let order = b.order;
-    let s = seat_of(seats, n);
     let heard = s.heard;
     let old = heard.field;
     let new = field_heard(m);

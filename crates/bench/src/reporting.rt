@@ -8,6 +8,7 @@ ghost use Rattle.packet.specs.Refusals.{verdictOf};
 ghost use Rattle.record.specs.Record.{noSuchSeat, settled};
 ghost use Rattle.bench.specs.Reporting.{idTold, sqiTold, sideTold, audioBarred, reportOf, reportSaid, reportBuffer, reportedBench};
 ghost use Rattle.bench.specs.Pieces.{reportVerdict};
+use crate::memory::place;
 use air::air::bench_air;
 use packet::Refusal;
 use packet::Rx;
@@ -18,8 +19,6 @@ use packet::audio_length;
 use packet::quality;
 use record::Air;
 use record::Bench;
-use record::is_open;
-use record::seat_of;
 use seats::opening::seat_verdict;
 use writer::Written;
 use writer::write_rx;
@@ -36,8 +35,8 @@ pub fn report(b: Bench, n: u8, timestamp: u32, audio: &[u8], out: &mut [u8]) -> 
     ensures buffer { λ _. ⌜ now (out .exit) ≡ reportBuffer b n timestamp (now (audio .entry)) (now (out .entry)) ⌝ }
     ensures bench { λ r. ⌜ r .bench ≡ settled (reportSaid b n timestamp (now (audio .entry)) (length (now (out .entry)))) b (reportedBench b n) ⌝ }
 {
-    let seats = b.seats;
-    let verdict = report_verdict(n, is_open(seats, n), b.signals, audio.len());
+    let i = place(n);
+    let verdict = report_verdict(n, b.seats[i].opened, b.signals, audio.len());
     match verdict {
         Verdict::Refused(r) => Reported {
             bench: b,
@@ -98,13 +97,12 @@ fn report_of(b: Bench, n: u8, timestamp: u32) -> Rx
     requires { ⌜ noSuchSeat n ≡ false ⌝ }
     ensures { λ r. ⌜ r ≡ reportOf b n timestamp ⌝ }
 {
-    let seats = b.seats;
     let setup = b.setup;
-    let s = seat_of(seats, n);
+    let i = (n - 1) as usize;
+    let s = b.seats[i];
     let heard = s.heard;
     let field = heard.field;
     let air = bench_air(b);
-    let i = (n - 1) as usize;
     Rx {
         sequence: b.sequences[i],
         timestamp,

@@ -3,11 +3,6 @@ use Rattle.bench.proofs.PacketSteps.{by-seat, by-reader, by-message}
 use borrow.Author.Needs.{needs}
 use Rattle.bench.proofs.hearing.admitted.Statement.{statement}
 use Rattle.bench.proofs.hearing.admitted.Tie as tie
-use Rattle.bench.proofs.hearing.admitted.Reads as reads
-use Rattle.bench.proofs.hearing.admitted.Lts as lts
-use Rattle.bench.proofs.hearing.let_in.Reads as let-in-reads
-use Rattle.reader.proofs.read_tx.Reads as read-tx-reads
-use Rattle.seats.proofs.opening.seat_verdict.Reads as seat-verdict-reads
 
 seat-verdict-requires : tie.Need-seat-verdict-requires
 seat-verdict-requires c κs = search needs

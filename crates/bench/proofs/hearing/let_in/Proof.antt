@@ -2,9 +2,6 @@ use Rattle.bench.proofs.PacketSteps.{message-refused, message-taken}
 use borrow.Author.Needs.{needs}
 use Rattle.bench.proofs.hearing.let_in.Statement.{statement}
 use Rattle.bench.proofs.hearing.let_in.Tie as tie
-use Rattle.bench.proofs.hearing.let_in.Reads as reads
-use Rattle.bench.proofs.hearing.let_in.Lts as lts
-use Rattle.bench.proofs.admission.message_verdict.Reads as message-verdict-reads
 
 message-verdict-requires : tie.Need-message-verdict-requires
 message-verdict-requires c κs = search needs

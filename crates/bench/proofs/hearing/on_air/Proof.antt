@@ -2,9 +2,6 @@ use Rattle.record.proofs.RecordLaws.{recordCases}
 use borrow.Author.Needs.{needs}
 use Rattle.bench.proofs.hearing.on_air.Statement.{statement}
 use Rattle.bench.proofs.hearing.on_air.Tie as tie
-use Rattle.bench.proofs.hearing.on_air.Reads as reads
-use Rattle.bench.proofs.hearing.on_air.Lts as lts
-use Rattle.air.proofs.bench_air.Reads as bench-air-reads
 
 bench-air-requires : tie.Need-bench-air-requires
 bench-air-requires c κs = search needs

@@ -1,23 +1,18 @@
-use mathlib.Core.Path.{ap, sym, _∙_}
+use mathlib.Core.Path.{refl, ap, sym, _∙_}
 use Rattle.packet.specs.Refusals.{accepted}
-use Rattle.bench.proofs.PacketSteps.{packet-refused, packet-said, says, taken, is-whole, hearing-told}
+use Rattle.bench.proofs.PacketSteps.{packet-refused, packet-said, says, taken, seen, is-whole, hearing-told}
 use borrow.Author.Needs.{needs}
 use Rattle.bench.proofs.hearing.packet.Statement.{statement}
 use Rattle.bench.proofs.hearing.packet.Tie as tie
-use Rattle.bench.proofs.hearing.packet.Reads as reads
-use Rattle.bench.proofs.hearing.packet.Lts as lts
-use Rattle.base.proofs.missing.Reads as missing-reads
-use Rattle.bench.proofs.hearing.admitted.Reads as admitted-reads
-use Rattle.bench.proofs.hearing.on_air.Reads as on-air-reads
-use Rattle.bench.proofs.hearing.sent_at.Reads as sent-at-reads
-use Rattle.bench.proofs.hearing.sent_length.Reads as sent-length-reads
-use Rattle.bench.proofs.memory.field_heard.Reads as field-heard-reads
-use Rattle.bench.proofs.memory.heard_bench.Reads as heard-bench-reads
-use Rattle.bench.proofs.memory.same_field.Reads as same-field-reads
-use Rattle.record.proofs.seat_of.Reads as seat-of-reads
 
-seat-of-requires : tie.Need-seat-of-requires
-seat-of-requires c κs = search needs
+place-requires : tie.Need-place-requires
+place-requires c κs = search needs
+
+mul-s : tie.Need-mul-s
+mul-s c = search needs
+
+element-copy-out-s : tie.Need-element-copy-out-s
+element-copy-out-s c = search needs
 
 admitted-requires : tie.Need-admitted-requires
 admitted-requires c κs = search needs
@@ -32,13 +27,13 @@ heard-bench-requires : tie.Need-heard-bench-requires
 heard-bench-requires c κs =
     let m = c .before in
     let a = m .before .before .before .before .before .before .before .args in
-    taken (a .b) (a .n) (a .p .now) _ (m .before .before .before .seat-of .ensures) _ (m .before .before .admitted .ensures) (m .told2 .given .1) .is-seat
+    (taken (a .t1) (a .n) (a .p .now) _ _ (m .before .before .before .before .place .ensures .0) refl _ (m .before .before .admitted .ensures) (m .told2 .given .1) .is-seat, seen (a .t1) (a .n) (a .p .now) _ _ (m .before .before .before .before .place .ensures .0) refl _ (m .before .before .admitted .ensures) (m .told2 .given .1))
 
 on-air-requires : tie.Need-on-air-requires
 on-air-requires c κs =
     let m = c .before .before in
     let a = m .before .before .before .before .before .before .before .args in
-    taken (a .b) (a .n) (a .p .now) _ (m .before .before .before .seat-of .ensures) _ (m .before .before .admitted .ensures) (m .told2 .given .1) .is-seat
+    taken (a .t1) (a .n) (a .p .now) _ _ (m .before .before .before .before .place .ensures .0) refl _ (m .before .before .admitted .ensures) (m .told2 .given .1) .is-seat
 
 field-heard-requires : tie.Need-field-heard-requires
 field-heard-requires c κs = search needs
@@ -53,37 +48,38 @@ sent-at-requires : tie.Need-sent-at-requires
 sent-at-requires c κs =
     let m = c .before .before .before .before .before .before .before .before in
     let a = m .before .before .before .before .before .before .before .args in
-    is-whole (a .b) (a .n) (a .p .now) _ (m .before .before .before .seat-of .ensures) _ (m .before .before .admitted .ensures) (m .told2 .given .1)
+    is-whole (a .t1) (a .n) (a .p .now) _ _ (m .before .before .before .before .place .ensures .0) refl _ (m .before .before .admitted .ensures) (m .told2 .given .1)
 
 sent-length-requires : tie.Need-sent-length-requires
 sent-length-requires c κs =
     let m = c .before .before .before .before .before .before .before .before .before in
     let a = m .before .before .before .before .before .before .before .args in
-    is-whole (a .b) (a .n) (a .p .now) _ (m .before .before .before .seat-of .ensures) _ (m .before .before .admitted .ensures) (m .told2 .given .1)
+    is-whole (a .t1) (a .n) (a .p .now) _ _ (m .before .before .before .before .place .ensures .0) refl _ (m .before .before .admitted .ensures) (m .told2 .given .1)
 
 returns : tie.Need-returns
 returns c =
     let m = c .before in
     let a = m .before .before .before .before .before .before .before .args in
-    let said = packet-refused (a .b) (a .n) (a .p .now) _ (m .before .before .before .seat-of .ensures) _ (m .before .before .admitted .ensures) (m .told .given .1) in
+    let said = packet-refused (a .t1) (a .n) (a .p .now) _ _ (m .before .before .before .before .place .ensures .0) refl _ (m .before .before .admitted .ensures) (m .told .given .1) in
     (sym said, simp said)
 
 returns-2 : tie.Need-returns-2
 returns-2 c =
     let m = c .before .before .before .before .before .before .before .before .before .before in
     let a = m .before .before .before .before .before .before .before .args in
-    let seen = m .before .before .before .seat-of .ensures in
-    let said = packet-said (a .b) (a .n) (a .p .now) _ seen _ (m .before .before .admitted .ensures) (m .told2 .given .1) in
-    let is = says (a .b) (a .n) (a .p .now) _ seen _ (m .before .before .admitted .ensures) (m .told2 .given .1) in
+    let said = packet-said (a .t1) (a .n) (a .p .now) _ _ (m .before .before .before .before .place .ensures .0) refl _ (m .before .before .admitted .ensures) (m .told2 .given .1) in
+    let is = says (a .t1) (a .n) (a .p .now) _ _ (m .before .before .before .before .place .ensures .0) refl _ (m .before .before .admitted .ensures) (m .told2 .given .1) in
     let left = c .before .before .before .before .before .before .before .before .heard-bench .ensures in
-    let told = hearing-told (a .b) (a .n) (a .p .now) seen is left (c .before .before .before .before .before .before .before .on-air .ensures) (c .before .before .before .before .field-heard .ensures) (c .before .before .before .same-field .ensures) (c .before .before .missing .ensures) (c .before .sent-at .ensures) (c .sent-length .ensures) in
+    let told = hearing-told (a .t1) (a .n) (a .p .now) (seen (a .t1) (a .n) (a .p .now) _ _ (m .before .before .before .before .place .ensures .0) refl _ (m .before .before .admitted .ensures) (m .told2 .given .1)) is left (c .before .before .before .before .before .before .before .on-air .ensures) (c .before .before .before .before .field-heard .ensures) (c .before .before .before .same-field .ensures) (c .before .before .missing .ensures) (c .before .sent-at .ensures) (c .sent-length .ensures) in
     (ap accepted told ∙ sym said, left ∙ simp (said, is))
 
 pub packet-spec : {M : Type 1} → statement M
 packet-spec =
     tie.close
     (tie.spec
-    seat-of-requires
+    place-requires
+    mul-s
+    element-copy-out-s
     admitted-requires
     enum-known-told
     enum-known-told-2

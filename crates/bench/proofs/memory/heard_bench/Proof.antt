@@ -4,9 +4,6 @@ use borrow.Author.Needs.{needs}
 use Rattle.bench.proofs.memory.heard_bench.Statement.{statement}
 use Rattle.bench.proofs.memory.heard_bench.Tie as tie
 
-seat-of-requires : tie.Need-seat-of-requires
-seat-of-requires c κs = search needs
-
 field-heard-requires : tie.Need-field-heard-requires
 field-heard-requires c κs = search needs
 
@@ -22,8 +19,8 @@ order-after-requires c κs = search needs
 heard-seat-requires : tie.Need-heard-seat-requires
 heard-seat-requires c κs = search needs
 
-mul-t15 : tie.Need-mul-t15
-mul-t15 c = search needs
+mul-t14 : tie.Need-mul-t14
+mul-t14 c = search needs
 
 element-set-from-after : tie.Need-element-set-from-after
 element-set-from-after c = search recordCases
@@ -39,20 +36,19 @@ returns c =
       c .before .heard-seat .ensures,
       c .before .before .order-after .ensures,
       c .before .before .before .field-heard .ensures,
-      c .before .before .before .before .before .before .seat-of .ensures,
+      c .before .before .before .before .before .before .before .pre .1,
     )
 
 pub heard-bench-spec : {M : Type 1} → statement M
 heard-bench-spec =
     tie.close
     (tie.spec
-    seat-of-requires
     field-heard-requires
     sub-i
     cast-i
     order-after-requires
     heard-seat-requires
-    mul-t15
+    mul-t14
     element-set-from-after
     side-after-requires
     returns)

@@ -3,15 +3,10 @@ use mir.Val.{toZ, ofZ}
 use mir.Syntax.{w16}
 use Rattle.bench.specs.Reporting.{reportOf}
 use Rattle.record.proofs.RecordLaws.{recordCases}
+use Rattle.record.proofs.Seats.{seat-of-place}
 use borrow.Author.Needs.{needs}
 use Rattle.bench.proofs.reporting.report_of.Statement.{statement}
 use Rattle.bench.proofs.reporting.report_of.Tie as tie
-
-seat-of-requires : tie.Need-seat-of-requires
-seat-of-requires c κs = search needs
-
-bench-air-requires : tie.Need-bench-air-requires
-bench-air-requires c κs = search needs
 
 sub-i : tie.Need-sub-i
 sub-i c = search recordCases
@@ -19,11 +14,20 @@ sub-i c = search recordCases
 cast-i : tie.Need-cast-i
 cast-i c = search needs
 
-mul-t14 : tie.Need-mul-t14
-mul-t14 c = search needs
+mul-s : tie.Need-mul-s
+mul-s c = search needs
 
-element-copy-out-t17 : tie.Need-element-copy-out-t17
-element-copy-out-t17 c = search recordCases
+element-copy-out-s : tie.Need-element-copy-out-s
+element-copy-out-s c = search recordCases
+
+bench-air-requires : tie.Need-bench-air-requires
+bench-air-requires c κs = search needs
+
+mul-t12 : tie.Need-mul-t12
+mul-t12 c = search needs
+
+element-copy-out-t19 : tie.Need-element-copy-out-t19
+element-copy-out-t19 c = search recordCases
 
 id-told-requires : tie.Need-id-told-requires
 id-told-requires c κs = search needs
@@ -37,14 +41,14 @@ side-told-requires c κs = search needs
 returns : tie.Need-returns
 unfolding reportOf
 returns c =
-    let level = c .before .before .before .before .before .before .before .before .before .before .before .args .t1 .level in
+    let level = c .before .before .before .before .before .before .before .before .before .before .args .t1 .level in
     let back : toZ w16 (ofZ w16 level) ≡ level = search needs in
     simp (
       c .side-told .ensures,
       c .before .sqi-told .ensures,
       c .before .before .before .id-told .ensures,
       c .before .before .before .before .before .bench-air .ensures,
-      c .before .before .before .before .before .before .before .before .seat-of .ensures,
+      seat-of-place (c .before .before .before .before .before .before .before .before .before .before .args .t1 .seats) (c .before .before .before .before .before .before .before .before .before .before .args .n) (c .before .before .before .before .before .before .before .before .before .before .pre),
       back,
     )
 
@@ -52,12 +56,13 @@ pub report-of-spec : {M : Type 1} → statement M
 report-of-spec =
     tie.close
     (tie.spec
-    seat-of-requires
-    bench-air-requires
     sub-i
     cast-i
-    mul-t14
-    element-copy-out-t17
+    mul-s
+    element-copy-out-s
+    bench-air-requires
+    mul-t12
+    element-copy-out-t19
     id-told-requires
     sqi-told-requires
     side-told-requires
