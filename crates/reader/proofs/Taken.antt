@@ -179,7 +179,7 @@ fresh-none (i ∷ is) = by-tests (eqb (i .type) 1) (eqb (i .type) 2) (eqb (i .ty
     by-tests false false true h = h
     by-tests false false false h = h
 
-and-true : (a : Bool) → a && true ≡ a
+pub and-true : (a : Bool) → a && true ≡ a
 and-true true = refl
 and-true false = refl
 

@@ -152,19 +152,10 @@ fn content(d: Direction, p: &[u8]) -> AnyRead
 fn field_allowed(d: Direction, f: u16) -> bool
     ensures { λ r. ⌜ r ≡ fieldAllowed d f ⌝ }
 {
-    let ptt = f / 8192 % 8;
-    if 5 < ptt {
-        return false;
-    }
+    let known = f / 8192 % 8 <= 5;
     match d {
-        Direction::Tx => {
-            let squ = f / 4096 % 2;
-            if squ != 0 {
-                return false;
-            }
-            f / 2 % 8 == 0
-        }
-        Direction::Rx => f / 2 % 4 == 0,
+        Direction::Tx => known & (f / 4096 % 2 == 0) & (f / 2 % 8 == 0),
+        Direction::Rx => known & (f / 2 % 4 == 0),
     }
 }
 

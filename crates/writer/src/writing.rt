@@ -110,25 +110,7 @@ fn writable(m: Message, n: usize) -> bool
     let items = m.items;
     let sqi = items.sqi;
     let climax = items.climax;
-    let ptt = m.ptt;
-    let id = m.id;
-    if 5 < ptt {
-        return false;
-    }
-    if 63 < id {
-        return false;
-    }
-    let sqi_fine = sqi_writable(sqi);
-    if sqi_fine {
-        let climax_fine = climax_writable(climax);
-        if climax_fine {
-            audio_writable(n)
-        } else {
-            false
-        }
-    } else {
-        false
-    }
+    (m.ptt <= 5) & (m.id <= 63) & sqi_writable(sqi) & climax_writable(climax) & audio_writable(n)
 }
 
 fn sqi_writable(i: SqiItem) -> bool
