@@ -8,11 +8,11 @@ use Rattle.record.specs.Record.{settled, withSignals, withHealth, withSide}
 use Rattle.seats.specs.Opening.{openSaid, openedBench, closeSaid, closedBench}
 use Rattle.seats.specs.Ticking.{tickSaid, tickSets, tickedBench}
 use Rattle.seats.specs.Radio.{sideSaid}
-use Rattle.bench.specs.Hearing.{packetSaid, heardBench, messageIn, audioIn}
-use Rattle.bench.specs.Reporting.{reportSaid, reportBytes, reportedBench}
+use Rattle.hearing.specs.Hearing.{packetSaid, heardBench, messageIn, audioIn}
+use Rattle.reporting.specs.Reporting.{reportSaid, reportBytes, reportedBench}
 use Rattle.record.specs.declared.whole.Bench.{Bench}
 use Rattle.seats.specs.declared.opening.Request.{Request}
-use Rattle.bench.specs.declared.hearing.Hearing.{Hearing}
+use Rattle.hearing.specs.declared.hearing.Hearing.{Hearing}
 
 pub data Call : Type 0 where
   opening : (n : ℕ) → Request → Call

@@ -1,12 +1,6 @@
-// The bench of document 01: every call, over the seats (crate seats) and who is on the air (crate air).
-// Start at specs/Step.antt, which has every call as one definition, then specs/Hearing.antt (a packet) and
-// specs/Reporting.antt (a report); then hearing.rt and reporting.rt. Private: admission.rt (refusals 19 to 23),
-// memory.rt (what a seat remembers).
-mod admission;
-pub mod hearing;
-mod memory;
-pub mod reporting;
-
+// The bench of document 01: every call in one place, from the crates that make them. Seats and events: `seats`; a packet:
+// `hearing`; a report: `reporting`; who is on the air: `air`; the record: `record`.
+// specs/Step.antt has every call as one definition.
 pub use air::bench_air;
 pub use hearing::Hearing;
 pub use hearing::PacketAnswer;

@@ -9,8 +9,8 @@ use Rattle.record.specs.Record.{seatOf}
 use Rattle.seats.specs.Opening.{openRefusals, seatRefusals}
 use Rattle.seats.specs.Ticking.{tickRefusals}
 use Rattle.seats.specs.Radio.{sideRefusals}
-use Rattle.bench.specs.Hearing.{packetRefusals}
-use Rattle.bench.specs.Reporting.{reportRefusals, reportBuffer}
+use Rattle.hearing.specs.Hearing.{packetRefusals}
+use Rattle.reporting.specs.Reporting.{reportRefusals, reportBuffer}
 use Rattle.bench.specs.Step.{Call, opening, closing, packet, tick, report, received, transmitter, side, step}
 use Rattle.record.specs.declared.whole.Bench.{Bench}
 use Rattle.demands.specs.Exact.{Exact}

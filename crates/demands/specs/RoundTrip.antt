@@ -12,7 +12,7 @@ use Rattle.packet.specs.declared.message.Message.{Message}
 use Rattle.packet.specs.declared.message.Tx.{Tx}
 use Rattle.packet.specs.declared.message.Rx.{Rx}
 use Rattle.record.specs.declared.whole.Bench.{Bench}
-use Rattle.bench.specs.Reporting.{reportOf, reportSaid, reportBytes}
+use Rattle.reporting.specs.Reporting.{reportOf, reportSaid, reportBytes}
 use Rattle.demands.specs.Plain.{Plain}
 
 -- Numbers that fit their bytes: the code's types see to it.

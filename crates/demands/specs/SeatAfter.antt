@@ -10,7 +10,7 @@ use Rattle.packet.specs.Refusals.{NoCase}
 use Rattle.record.specs.Record.{closedSeat, openedSeat, seatOf}
 use Rattle.seats.specs.Opening.{callCode}
 use Rattle.seats.specs.Ticking.{tickedSeat}
-use Rattle.bench.specs.Hearing.{heardSeat, messageIn}
+use Rattle.hearing.specs.Hearing.{heardSeat, messageIn}
 use Rattle.bench.specs.Step.{Call, opening, closing, packet, tick, report, received, transmitter, side, step, after, acceptedCalls}
 use Rattle.record.specs.declared.seat.Seat.{Seat}
 use Rattle.record.specs.declared.whole.Bench.{Bench}

@@ -11,18 +11,19 @@ use Rattle.reader.specs.Reading.{readTx, readRx, txAnswer, rxAnswer}
 use Rattle.writer.specs.Writing.{fromTx, fromRx, write, buffered, writtenAnswer}
 use Rattle.record.specs.Record.{freshBench}
 use Rattle.seats.specs.Answers.{openAnswer, doneAnswer}
-use Rattle.bench.specs.Hearing.{audioIn}
-use Rattle.bench.specs.Reporting.{reportBuffer}
-use Rattle.bench.specs.Answers.{packetAnswer}
+use Rattle.hearing.specs.Hearing.{audioIn}
+use Rattle.reporting.specs.Reporting.{reportBuffer}
+use Rattle.hearing.specs.Answers.{packetAnswer}
 use Rattle.bench.specs.Step.{opening, closing, packet, tick, report, received, transmitter, side, Said, done, own, heard, ticked, written, Outcome, step}
 use Rattle.record.specs.declared.whole.Bench.{Bench}
 use Rattle.seats.specs.declared.ticking.SeatSets.{SeatSets}
-use Rattle.bench.specs.declared.hearing.Hearing.{Hearing}
+use Rattle.hearing.specs.declared.hearing.Hearing.{Hearing}
 use Rattle.reader.proofs as reader
 use Rattle.writer.proofs as writer
 use Rattle.record.proofs as the-record
 use Rattle.seats.proofs as seats
-use Rattle.bench.proofs as bench
+use Rattle.hearing.proofs as hearing
+use Rattle.reporting.proofs as reporting
 
 -- What holds of every result that a promise allows: of the arguments, the result and the parameters at exit.
 abbrev pub Gives : {K : Type 0} {A R E : K → Type 0} → (promise claim : (k : K) → A k → R k → E k → Type 0) → Type 0
@@ -62,16 +63,16 @@ pub record StepOfCode : Type 1 where
   pub closes : Gives seats.close.Reads.Learnt
       (λ k (b, (n, end)) r e. did (mapped wasDone (doneAnswer (r .answer))) (r .bench) ≡ step b (closing n))
   -- with the audio that `audio` hands out for its answer
-  pub hears : Gives bench.packet.Reads.Learnt (λ k (b, (n, (p, end))) r e.
+  pub hears : Gives hearing.packet.Reads.Learnt (λ k (b, (n, (p, end))) r e.
       did (mapped (heardWith (audioIn (packetAnswer (r .answer)) (now p))) (packetAnswer (r .answer))) (r .bench) ≡ step b (packet n (now p)))
-  pub hands-out : Gives bench.audio.Reads.Learnt (λ k (answer, (p, end)) sound e. now sound ≡ audioIn (packetAnswer answer) (now p))
+  pub hands-out : Gives hearing.audio.Reads.Learnt (λ k (answer, (p, end)) sound e. now sound ≡ audioIn (packetAnswer answer) (now p))
   pub ticks : Gives seats.tick.Reads.Learnt
       (λ k (b, (ms, end)) r e. did (mapped (tickedSets (r .seats)) (doneAnswer (r .answer))) (r .bench) ≡ step b (tick ms))
-  pub reports : Gives bench.report.Reads.Learnt (λ k (b, (n, (timestamp, (audio, (out, end))))) r e.
+  pub reports : Gives reporting.report.Reads.Learnt (λ k (b, (n, (timestamp, (audio, (out, end))))) r e.
       did (mapped (inFront (now (e .1 .1 .1 .1 .0))) (writtenAnswer (r .answer))) (r .bench)
       ≡ step b (report n timestamp (now audio) (length (now out))))
   -- "Bytes past its length stay", and all of them where it is refused
-  pub leaves : Gives bench.report.Reads.Learnt (λ k (b, (n, (timestamp, (audio, (out, end))))) r e.
+  pub leaves : Gives reporting.report.Reads.Learnt (λ k (b, (n, (timestamp, (audio, (out, end))))) r e.
       now (e .1 .1 .1 .1 .0) ≡ reportBuffer b n timestamp (now audio) (now out))
   pub receives : Gives seats.received.Reads.Learnt
       (λ k (b, (signals, (level, end))) r e. did (accepted done) r ≡ step b (received signals level))

@@ -13,7 +13,9 @@ use Rattle.writer.proofs as writer
 use Rattle.record.proofs as the-record
 use Rattle.seats.proofs as seats
 use Rattle.air.proofs as air
-use Rattle.bench.proofs as bench
+use Rattle.items.proofs as items
+use Rattle.hearing.proofs as hearing
+use Rattle.reporting.proofs as reporting
 use Rattle.text.proofs as text
 use Rattle.words.proofs as words
 use Rattle.show.proofs as show
@@ -58,6 +60,9 @@ pub record TightPacket : Type 1 where
   pub audio-length : OneResult packet.audio_length.Reads.Learnt
   pub sqi-allowed : OneResult packet.sqi_allowed.Reads.Learnt
 
+pub record TightItems : Type 1 where
+  pub items-in : OneResult items.items_in.Reads.Learnt
+
 pub record TightReader : Type 1 where
   pub read-tx : OneResult reader.read_tx.Reads.Learnt
   pub read-rx : OneResult reader.read_rx.Reads.Learnt
@@ -71,6 +76,7 @@ pub record TightRecord : Type 1 where
   pub opened : OneResult the-record.seat.Seat.opened.Reads.Learnt
   pub fresh : OneResult the-record.whole.Bench.fresh.Reads.Learnt
   pub no-such-seat : OneResult the-record.no_such_seat.Reads.Learnt
+  pub place : OneResult the-record.place.Reads.Learnt
   pub seat-of : OneResult the-record.seat_of.Reads.Learnt
   pub lesson-seat : OneResult the-record.lesson_seat.Reads.Learnt
   pub is-open : OneResult the-record.«is_open».Reads.Learnt
@@ -93,10 +99,12 @@ pub record TightAir : Type 1 where
   pub moved-last : OneResult air.order.moved_last.Reads.Learnt
   pub order-after : OneResult air.order_after.Reads.Learnt
 
-pub record TightBench : Type 1 where
-  pub packet : OneResult bench.packet.Reads.Learnt
-  pub audio : OnePart bench.audio.Reads.Learnt
-  pub report : OneResultAndBuffer bench.report.Reads.Learnt (λ k e. e .1 .1 .1 .1 .0)
+pub record TightHearing : Type 1 where
+  pub packet : OneResult hearing.packet.Reads.Learnt
+  pub audio : OnePart hearing.audio.Reads.Learnt
+
+pub record TightReporting : Type 1 where
+  pub report : OneResultAndBuffer reporting.report.Reads.Learnt (λ k e. e .1 .1 .1 .1 .0)
 
 pub record TightText : Type 1 where
   pub put-byte : OneResultAndBuffer text.put_byte.Reads.Learnt (λ k e. e .0)
@@ -132,16 +140,18 @@ pub record TightGrammar : Type 1 where
   pub named : OneResult grammar.named.Reads.Learnt
   pub parsed : OneResultAndBuffer grammar.parsed.Reads.Learnt (λ k e. e .1 .0)
 
--- All 73.
+-- All 75.
 pub record Tight : Type 1 where
   pub base : TightBase
   pub packet : TightPacket
+  pub items : TightItems
   pub reader : TightReader
   pub writer : TightWriter
   pub the-record : TightRecord
   pub seats : TightSeats
   pub air : TightAir
-  pub bench : TightBench
+  pub hearing : TightHearing
+  pub reporting : TightReporting
   pub text : TightText
   pub words : TightWords
   pub show : TightShow

@@ -5,12 +5,12 @@ use mathlib.Core.Bool.{Bool, true, false, cond}
 use mathlib.Core.List.{List}
 use lib.ListN.{take, drop}
 use Rattle.packet.specs.Items.{itemsAllowed, itemsOf, kept}
-use Rattle.reader.specs.Scan.{itemsRead}
+use Rattle.items.specs.Scan.{itemsRead}
 use Rattle.reader.specs.Reading.{readerRefusals, messageOf, read}
 use Rattle.reader.specs.Pieces.{headVerdict, extensionVerdict, contentAnswer}
 use Rattle.packet.specs.declared.message.Direction.{Direction}
 use Rattle.packet.specs.declared.message.Items.{Items}
-use Rattle.reader.specs.declared.items.ItemsRead.the-variants as items
+use Rattle.items.specs.declared.scan.ItemsRead.the-variants as items
 use Rattle.packet.proofs.Judged.{andThen, judged-split}
 
 pub read-in-steps : (d : Direction) (ext : ℕ) (p : List ℕ) → read d ext p ≡ andThen (headVerdict p) (andThen (extensionVerdict ext p) (contentAnswer d p))

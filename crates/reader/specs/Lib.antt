@@ -1,4 +1,3 @@
--- What the readers answer. (Scan and Pieces: what the private functions do; no public promise needs them.)
+-- What the readers answer. (Pieces: what the private functions do; no public promise needs it.)
 pub mod Reading
-pub mod Scan
 pub mod Pieces

@@ -7,18 +7,18 @@ ghost use Rattle.packet.specs.Items.{kept};
 ghost use Rattle.packet.specs.Packet.{field, x, afterField, payload, payloadAt, payloadAllowed, fieldAllowed};
 ghost use Rattle.reader.specs.Reading.{read, readTx, readRx, txAnswer, rxAnswer, asTx, asRx, itemsHere, messageOf};
 ghost use Rattle.reader.specs.Pieces.{readAnswer, itemsAnswer, payloadAnswer, contentAnswer};
-ghost use Rattle.reader.specs.Scan.{itemsRead};
+ghost use Rattle.items.specs.Scan.{itemsRead};
 use crate::frame::extension_verdict;
 use crate::frame::field;
 use crate::frame::head_verdict;
 use crate::frame::payload_at;
 use crate::frame::payload_type;
 use crate::frame::words_at;
-use crate::items::ItemsRead;
-use crate::items::items;
 use base::number16_at;
 use base::number32_at;
 use base::part;
+use items::ItemsRead;
+use items::items_in;
 use packet::Direction;
 use packet::Items;
 use packet::Message;
@@ -142,7 +142,7 @@ fn content(d: Direction, p: &[u8]) -> AnyRead
     if allowed {
         let words = words_at(p) as usize;
         let rest = part(p, words + 2, payload_at(p) as usize);
-        with_items(d, p, items(d, f % 2, rest))
+        with_items(d, p, items_in(d, f % 2, rest))
     } else {
         AnyRead::Refused(Refusal::FieldRule)
     }

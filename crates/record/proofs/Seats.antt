@@ -10,7 +10,7 @@ use lib.Seq.{getD-set-same, getD-set-other}
 use borrow.Author.Tests.{ltb-false, eqb-true, eqb-false}
 use Rattle.base.proofs.Places.{all-alike}
 use Rattle.base.proofs.Truths.{or-left, or-right}
-use Rattle.record.specs.Record.{noSuchSeat, closedSeat, seatOf, lesson}
+use Rattle.record.specs.Record.{noSuchSeat, placeOf, closedSeat, seatOf, lesson}
 use Rattle.record.specs.declared.setup.Setup.{Setup}
 use Rattle.record.specs.declared.seat.Seat.{Seat}
 
@@ -44,6 +44,11 @@ seat-of-place ss n e = rw e
 pub seat-of-none : (ss : List Seat) (n : ℕ) → noSuchSeat n ≡ true → seatOf ss n ≡ closedSeat
 unfolding seatOf
 seat-of-none ss n e = rw e
+
+-- what stands at the place of a seat's number is the seat
+pub placed : (seats : List Seat) (n i : ℕ) {s : Seat} → i ≡ placeOf n → s ≡ getD seats i closedSeat → noSuchSeat n ≡ false → s ≡ seatOf seats n
+placed seats n i at-place stands real =
+    stands ∙ ap (λ (k : ℕ). getD seats k closedSeat) (at-place ∙ rw real) ∙ sym (seat-of-place seats n real)
 
 -- a seat's flag in the set-up
 pub lesson-flag : (setup : Setup) (n : ℕ) → noSuchSeat n ≡ false → getD (setup .lesson) (n - 1) false ≡ lesson setup n

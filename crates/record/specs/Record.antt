@@ -61,6 +61,10 @@ freshBench setup =
       level = pos 0;
     }
 
+-- Where the seat of a number stands; 0 for what is no seat's number.
+abbrev pub placeOf : (n : ℕ) → ℕ
+placeOf n = cond (noSuchSeat n) 0 (n - 1)
+
 -- The seat of a number; a number that is no seat's counts as a closed one.
 unfoldable pub seatOf : List Seat → ℕ → Seat
 seatOf seats n = cond (noSuchSeat n) closedSeat (getD seats (n - 1) closedSeat)

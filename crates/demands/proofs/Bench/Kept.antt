@@ -14,8 +14,8 @@ use Rattle.packet.specs.declared.message.Tx.{Tx}
 use Rattle.record.specs.Record.{closedSeat, openedSeat, freshBench, seatOf}
 use Rattle.seats.specs.Opening.{callCode, asksCoupling, holdsCoupling, openedBench, closedBench}
 use Rattle.seats.specs.Ticking.{tickedSeat, tickedBench}
-use Rattle.bench.specs.Hearing.{fieldHeard, heardSeat, heardBench, messageIn}
-use Rattle.bench.specs.Reporting.{reportedBench}
+use Rattle.hearing.specs.Hearing.{fieldHeard, heardSeat, heardBench, messageIn}
+use Rattle.reporting.specs.Reporting.{reportedBench}
 use Rattle.bench.specs.Step.{Call, opening, closing, packet, tick, report, received, transmitter, side, step, after}
 use Rattle.record.specs.declared.setup.Setup.{Setup}
 use Rattle.record.specs.declared.seat.Seat.{Seat}
@@ -26,8 +26,8 @@ use Rattle.demands.specs.Kept.{SeatKept, Kept, InRange, AllInRange, Kept
 use Rattle.demands.proofs.Demand1.Calls.{benchAfter, after-call}
 use Rattle.seats.proofs.TickingLaws.{ticked-cases}
 use Rattle.seats.proofs.Accepted.{open-accepted, side-accepted}
-use Rattle.bench.proofs.Sides.{side-stays}
-use Rattle.bench.proofs.Accepted.{packet-accepted}
+use Rattle.hearing.proofs.Sides.{side-stays}
+use Rattle.hearing.proofs.Accepted.{packet-accepted}
 use Rattle.record.proofs.Seats.{seat-of-eight-closed}
 use Rattle.seats.proofs.OpeningLaws.{none-coupling}
 use Rattle.demands.proofs.Bench.SeatAfter.{same-setup, as-many-seats, seat-made}

@@ -20,7 +20,7 @@ use Rattle.packet.specs.declared.message.Tx.{Tx}
 use Rattle.record.specs.Record.{zeroField, closedSeat, openedSeat, seatOf, lesson}
 use Rattle.seats.specs.Opening.{callCode, isTxRx, isCoupling, ownId}
 use Rattle.seats.specs.Ticking.{phaseAfter, aged, tickedSeat}
-use Rattle.bench.specs.Hearing.{hasDelay, delayOf, hasSide, isStandby, fieldHeard, keyingBarred, idAllowed, sideBarred, messageIn, heardSeat}
+use Rattle.hearing.specs.Hearing.{hasDelay, delayOf, hasSide, isStandby, fieldHeard, keyingBarred, idAllowed, sideBarred, messageIn, heardSeat}
 use Rattle.record.specs.declared.setup.Setup.{Setup}
 use Rattle.record.specs.declared.seat.Seat.{Seat}
 use Rattle.seats.specs.declared.opening.CallType.{CallType}
@@ -29,8 +29,8 @@ use Rattle.seats.specs.declared.opening.Request.{Request}
 use Rattle.demands.specs.Kept.{FieldKept, SeatKept}
 use Rattle.seats.proofs.TickingLaws.{ticked-cases}
 use Rattle.seats.proofs.Accepted.{OpenAccepted}
-use Rattle.bench.proofs.Sides.{no-item-single, no-item-lesson}
-use Rattle.bench.proofs.Accepted.{PacketAccepted, type-known}
+use Rattle.hearing.proofs.Sides.{no-item-single, no-item-lesson}
+use Rattle.hearing.proofs.Accepted.{PacketAccepted, type-known}
 
 -- ---- the last field
 

@@ -10,8 +10,8 @@ use Rattle.packet.specs.Refusals.{NoCase, Answer, accepted, refused}
 use Rattle.record.specs.Record.{closedSeat, openedSeat, seatOf}
 use Rattle.seats.specs.Opening.{callCode, openedBench, closedBench}
 use Rattle.seats.specs.Ticking.{tickedSeat, tickedBench}
-use Rattle.bench.specs.Hearing.{heardSeat, heardBench, messageIn}
-use Rattle.bench.specs.Reporting.{reportedBench}
+use Rattle.hearing.specs.Hearing.{heardSeat, heardBench, messageIn}
+use Rattle.reporting.specs.Reporting.{reportedBench}
 use Rattle.bench.specs.Step.{Call, opening, closing, packet, tick, report, received, transmitter, side, Said, step, after, wasAccepted, acceptedCalls}
 use Rattle.record.specs.declared.seat.Seat.{Seat}
 use Rattle.record.specs.declared.whole.Bench.{Bench}
@@ -21,7 +21,7 @@ use Rattle.demands.proofs.Demand1.Exact.{exact-judged}
 use Rattle.demands.proofs.Demand1.Calls.{saidBy, benchAfter, step-answer, accepted-bench, after-call}
 use Rattle.demands.proofs.Demand1.ExactCalls.{refused-keeps}
 use Rattle.seats.proofs.Accepted.{open-accepted, seat-accepted}
-use Rattle.bench.proofs.Accepted.{packet-accepted}
+use Rattle.hearing.proofs.Accepted.{packet-accepted}
 use Rattle.record.proofs.Seats.{seat-put, seat-changed}
 
 -- ---- the set-up, and how many seats

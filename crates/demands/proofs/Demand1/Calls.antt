@@ -6,8 +6,8 @@ use Rattle.record.specs.Record.{settled, withSide, withHealth, withSignals}
 use Rattle.seats.specs.Opening.{ownId, callCode, openSaid, openedBench, closeSaid, closedBench, seatVerdict}
 use Rattle.seats.specs.Ticking.{tickSaid, tickSets, tickedBench}
 use Rattle.seats.specs.Radio.{sideSaid}
-use Rattle.bench.specs.Hearing.{packetSaid, hearing, heardBench, messageIn}
-use Rattle.bench.specs.Reporting.{reportSaid, reportBytes, reportedBench}
+use Rattle.hearing.specs.Hearing.{packetSaid, hearing, heardBench, messageIn}
+use Rattle.reporting.specs.Reporting.{reportSaid, reportBytes, reportedBench}
 use Rattle.bench.specs.Step.{Call, opening, closing, packet, tick, report, received, transmitter, side, Said, done, own, ticked, written, told, step}
 use Rattle.record.specs.declared.whole.Bench.{Bench}
 use Rattle.demands.specs.ExactCalls.{refusalsOf}

@@ -9,8 +9,8 @@ use Rattle.seats.specs.Opening.{openRefusals, seatRefusals}
 use Rattle.seats.specs.Ticking.{tickRefusals}
 use Rattle.seats.specs.Radio.{sideRefusals}
 use Rattle.air.specs.Air.{among}
-use Rattle.bench.specs.Hearing.{messageRefusals, packetRefusals}
-use Rattle.bench.specs.Reporting.{reportRefusals}
+use Rattle.hearing.specs.Hearing.{messageRefusals, packetRefusals}
+use Rattle.reporting.specs.Reporting.{reportRefusals}
 use Rattle.demands.specs.ExactAll.{WritersExact, Orders, AllExact}
 use Rattle.demands.proofs.Demand1.Exact.{exact-judged, readers-exact}
 use Rattle.demands.proofs.Demand1.ExactCalls.{calls-exact}

@@ -6,7 +6,7 @@ use lib.ListN.{length}
 use Rattle.packet.specs.Refusals.{Answer, accepted, refused, mapped}
 use Rattle.writer.specs.Writing.{filled}
 use Rattle.record.specs.Record.{settled}
-use Rattle.bench.specs.Reporting.{reportSaid, reportBytes, reportBuffer}
+use Rattle.reporting.specs.Reporting.{reportSaid, reportBytes, reportBuffer}
 use Rattle.bench.specs.Step.{Call, report, Said, written, step}
 use Rattle.record.specs.declared.whole.Bench.{Bench}
 use Rattle.demands.specs.Exact.{Exact}

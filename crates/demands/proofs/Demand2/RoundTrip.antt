@@ -18,9 +18,9 @@ use Rattle.demands.specs.RoundTrip.{Narrow, RoundTripTx, RoundTripRx, Pl
 use Rattle.demands.proofs.Demand2.ItemsBack.{AllWrite, list-back, allowed-back}
 use Rattle.demands.proofs.Demand2.RisingItems.{rising-writes, rising-kept, rising-once, rising-rises, rising-in-tx, rising-in-rx}
 use Rattle.packet.proofs.Judged.{accepts, meets-none}
-use Rattle.bench.specs.Reporting.{reportOf, reportRefusals, reportSaid, reportBytes}
-use Rattle.bench.proofs.Accepted.{report-accepted}
-use Rattle.bench.proofs.ReportLaws.{report-writable}
+use Rattle.reporting.specs.Reporting.{reportOf, reportRefusals, reportSaid, reportBytes}
+use Rattle.reporting.proofs.Accepted.{report-accepted}
+use Rattle.reporting.proofs.ReportLaws.{report-writable}
 use Rattle.writer.proofs.Words.{at-most-three}
 use Rattle.demands.proofs.Demand2.ReadBack.{no-case, message-made}
 use Rattle.demands.proofs.Demand2.Written.{Writable, writable-is, bit-set, SaysOf, field-written, allowed-in-tx, allowed-in-rx, kind-allowed, sound-allowed, zerosFor, afterFieldOf, few-words, itemsFor, fieldFor, Written, written}

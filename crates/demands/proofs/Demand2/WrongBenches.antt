@@ -16,8 +16,8 @@ use Rattle.record.specs.Record.{seatNumbers, openedSeat, freshBench, seatOf, le
 use Rattle.seats.specs.Opening.{anyCoupling, openRefusals, openSaid, openedBench, seatRefusals}
 use Rattle.air.specs.Air.{takesPart, keyingsOf, keyings, topRank, atRank, leaders, added, onAir, among, smallest, anySends, airOf, benchAir}
 use Rattle.air.specs.Order.{begins, toLast, orderAfter}
-use Rattle.bench.specs.Hearing.{fieldHeard, keyingBarred, idAllowed, sideBarred, messageRefusals, packetRefusals, heardSeat, takesEffect, sideAfter, heardBench, sameField, isSent, hearing, packetSaid, audioIn}
-use Rattle.bench.specs.Reporting.{reportOf, reportBytes, reportRefusals, reportSaid, reportedBench}
+use Rattle.hearing.specs.Hearing.{fieldHeard, keyingBarred, idAllowed, sideBarred, messageRefusals, packetRefusals, heardSeat, takesEffect, sideAfter, heardBench, sameField, isSent, hearing, packetSaid, audioIn}
+use Rattle.reporting.specs.Reporting.{reportOf, reportBytes, reportRefusals, reportSaid, reportedBench}
 use Rattle.bench.specs.Step.{Call, packet, Said, done, own, heard, ticked, written, Outcome, step, after}
 use Rattle.record.specs.declared.setup.Setup.{Setup}
 use Rattle.record.specs.declared.whole.Bench.{Bench}

@@ -7,16 +7,17 @@ use lib.ListN.{getD}
 use Rattle.packet.specs.Refusals.{NoCase}
 use Rattle.record.specs.Record.{noSuchSeat, seatOf, lesson}
 use Rattle.seats.specs.Opening.{openedBench, closedBench}
-use Rattle.bench.specs.Hearing.{messageIn, fieldHeard, heardBench}
-use Rattle.bench.specs.Reporting.{reportedBench}
+use Rattle.hearing.specs.Hearing.{messageIn, fieldHeard, heardBench}
+use Rattle.reporting.specs.Reporting.{reportedBench}
 use Rattle.bench.specs.Step.{Call, opening, closing, packet, tick, report, received, transmitter, side, step}
 use Rattle.record.specs.declared.whole.Bench.{Bench}
 use Rattle.seats.specs.declared.opening.Request.{Request}
 use Rattle.demands.specs.Apart.{named}
 use Rattle.demands.proofs.Demand3.Blanking.{set-hidden}
 use Rattle.seats.proofs.Accepted.{open-accepted, seat-accepted}
-use Rattle.bench.proofs.Sides.{no-item-lesson, side-stays}
-use Rattle.bench.proofs.Accepted.{PacketAccepted, packet-accepted, report-accepted}
+use Rattle.hearing.proofs.Sides.{no-item-lesson, side-stays}
+use Rattle.hearing.proofs.Accepted.{PacketAccepted, packet-accepted}
+use Rattle.reporting.proofs.Accepted.{report-accepted}
 use Rattle.record.proofs.Seats.{lesson-flag}
 use Rattle.demands.specs.ExactCalls.{refusalsOf}
 use Rattle.demands.proofs.Demand1.Calls.{benchAfter, after-call}

@@ -15,8 +15,8 @@ use Rattle.record.specs.Record.{seatNumbers, noSuchSeat, closedSeat, openedSeat
 use Rattle.seats.specs.Opening.{isTxRx, isCoupling, holdsCoupling, openedBench, closedBench}
 use Rattle.seats.specs.Ticking.{tickedSeat, tickedBench}
 use Rattle.air.specs.Air.{rank, among}
-use Rattle.bench.specs.Hearing.{pttOn, keyingBarred, messageIn, heardSeat, fieldHeard, heardBench}
-use Rattle.bench.specs.Reporting.{reportedBench}
+use Rattle.hearing.specs.Hearing.{pttOn, keyingBarred, messageIn, heardSeat, fieldHeard, heardBench}
+use Rattle.reporting.specs.Reporting.{reportedBench}
 use Rattle.bench.specs.Step.{Call, opening, closing, packet, tick, report, received, transmitter, side, step}
 use Rattle.record.specs.declared.setup.Setup.{Setup}
 use Rattle.record.specs.declared.seat.Seat.{Seat}
@@ -25,7 +25,7 @@ use Rattle.seats.specs.declared.opening.Request.{Request}
 use Rattle.base.proofs.Places.{set-cases, all-alike}
 use Rattle.seats.proofs.TickingLaws.{ticked-cases}
 use Rattle.seats.proofs.Accepted.{OpenAccepted, open-accepted}
-use Rattle.bench.proofs.Accepted.{PacketAccepted, packet-accepted}
+use Rattle.hearing.proofs.Accepted.{PacketAccepted, packet-accepted}
 use Rattle.demands.specs.ExactCalls.{refusalsOf}
 use Rattle.demands.proofs.Demand1.Calls.{benchAfter, after-call}
 use Rattle.demands.proofs.Bench.Order.{among-after}

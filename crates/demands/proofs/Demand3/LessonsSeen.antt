@@ -10,9 +10,9 @@ use Rattle.writer.specs.Writing.{risingItems, itemBytes, wordsOf, headOf, encod
 use Rattle.record.specs.Record.{openedSeat, freshBench, seatOf, lesson}
 use Rattle.seats.specs.Opening.{anyCoupling, openRefusals, openSaid, openedBench, seatRefusals}
 use Rattle.air.specs.Air.{takesPart, keyingsOf, keyings, topRank, atRank, leaders, added, onAir, among, smallest, anySends, airOf, benchAir}
-use Rattle.bench.specs.Hearing.{fieldHeard, keyingBarred, idAllowed, sideBarred, messageRefusals, packetRefusals, heardSeat, takesEffect, sideAfter, heardBench, sameField, isSent, hearing, packetSaid, audioIn}
+use Rattle.hearing.specs.Hearing.{fieldHeard, keyingBarred, idAllowed, sideBarred, messageRefusals, packetRefusals, heardSeat, takesEffect, sideAfter, heardBench, sameField, isSent, hearing, packetSaid, audioIn}
 use Rattle.air.specs.Order.{begins, toLast, orderAfter}
-use Rattle.bench.specs.Reporting.{reportOf, reportBytes, reportRefusals, reportSaid, reportedBench}
+use Rattle.reporting.specs.Reporting.{reportOf, reportBytes, reportRefusals, reportSaid, reportedBench}
 use Rattle.bench.specs.Step.{step, after}
 use Rattle.demands.specs.Apart.{named, withoutLessons, liveAboveTest, blotted}
 use Rattle.demands.specs.LessonsSeen.{LessonsSeen}

@@ -9,14 +9,14 @@ use Rattle.packet.specs.Packet.{payload, test}
 use Rattle.packet.specs.Refusals.{NoCase, accepted, mapped}
 use Rattle.record.specs.Record.{seatOf, seatNumbers, lesson, settled}
 use Rattle.air.specs.Air.{keyings}
-use Rattle.bench.specs.Hearing.{messageIn, messageRefusals, packetRefusals, fieldHeard, heardSeat, heardBench, isSent, hearing, packetSaid, audioIn}
+use Rattle.hearing.specs.Hearing.{messageIn, messageRefusals, packetRefusals, fieldHeard, heardSeat, heardBench, isSent, hearing, packetSaid, audioIn}
 use Rattle.bench.specs.Step.{packet, heard, told, step}
 use Rattle.record.specs.declared.seat.Seat.{Seat}
 use Rattle.record.specs.declared.whole.Bench.{Bench}
 use Rattle.demands.specs.Apart.{named, pttOf, liveAboveTest, fixed}
 use Rattle.packet.proofs.Judged.{accepts, judged-one}
-use Rattle.bench.proofs.Accepted.{PacketAccepted, packet-accepted}
-use Rattle.bench.proofs.AudioSent.{audio-sent}
+use Rattle.hearing.proofs.Accepted.{PacketAccepted, packet-accepted}
+use Rattle.hearing.proofs.AudioSent.{audio-sent}
 use Rattle.demands.proofs.Demand3.WithoutLessons.{low, seat-low}
 use Rattle.demands.proofs.Demand3.LiveAir.{Up, lesson-off-air}
 use Rattle.demands.proofs.Demand3.LessonSeats.{Held, held-heard}

@@ -17,7 +17,7 @@ use Rattle.packet.specs.declared.message.Message.{Message}
 use Rattle.packet.specs.declared.message.Rx.{Rx}
 use Rattle.record.specs.Record.{seatNumbers, noSuchSeat, seatOf, lesson}
 use Rattle.air.specs.Air.{benchAir}
-use Rattle.bench.specs.Reporting.{squTold, sctTold, sqiTold, sideTold, reportOf, reportBytes, reportRefusals, reportSaid, reportedBench}
+use Rattle.reporting.specs.Reporting.{squTold, sctTold, sqiTold, sideTold, reportOf, reportBytes, reportRefusals, reportSaid, reportedBench}
 use Rattle.bench.specs.Step.{report, written, step}
 use Rattle.record.specs.declared.seat.Seat.{Seat}
 use Rattle.record.specs.declared.whole.Bench.{Bench}
@@ -27,8 +27,8 @@ use Rattle.demands.proofs.Demand3.Blotted.{calm, blotted-calm}
 use Rattle.writer.proofs.Written.{encoded-length}
 use Rattle.record.proofs.Seats.{lesson-flag}
 use Rattle.air.proofs.Bounds.{ptt-most}
-use Rattle.bench.proofs.Accepted.{report-accepted}
-use Rattle.bench.proofs.ReportLaws.{id-told-most}
+use Rattle.reporting.proofs.Accepted.{report-accepted}
+use Rattle.reporting.proofs.ReportLaws.{id-told-most}
 use Rattle.demands.proofs.Demand3.WithoutLessons.{low, seat-low, sequence-low}
 use Rattle.demands.proofs.Demand3.LessonSeats.{Held}
 use Rattle.demands.proofs.Demand3.BenchAir.{up-is, air-low}

@@ -12,13 +12,13 @@ use Rattle.packet.specs.Packet.{test}
 use Rattle.packet.specs.declared.message.Tx.{Tx}
 use Rattle.record.specs.Record.{seatNumbers, noSuchSeat, closedSeat, seatOf, lesson}
 use Rattle.air.specs.Air.{rank, keyed, takesPart, Keying, keyingsOf, keyings, onAir, among, airOf, benchAir}
-use Rattle.bench.specs.Hearing.{messageIn, fieldHeard, heardSeat, heardBench, isSent}
+use Rattle.hearing.specs.Hearing.{messageIn, fieldHeard, heardSeat, heardBench, isSent}
 use Rattle.record.specs.declared.seat.Seat.{Seat}
 use Rattle.record.specs.declared.whole.Bench.{Bench}
 use Rattle.record.specs.declared.shown.Air.{Air}
 use Rattle.demands.specs.Apart.{pttOf}
 use Rattle.demands.proofs.Demand3.Blanking.{set-elsewhere}
-use Rattle.bench.proofs.Accepted.{PacketAccepted}
+use Rattle.hearing.proofs.Accepted.{PacketAccepted}
 use Rattle.record.proofs.Seats.{each-seat, lesson-flag, seat-of-place}
 use Rattle.demands.proofs.Demand3.WithoutLessons.{low, live-seat, order-live}
 use Rattle.demands.proofs.Demand3.LiveAir.{keyings-low, Up, seatsOf, off-air, no-keying-left}

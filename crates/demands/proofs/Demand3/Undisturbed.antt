@@ -8,8 +8,8 @@ use Rattle.packet.specs.Packet.{test}
 use Rattle.packet.specs.Refusals.{Answer, accepted, refused, mapped}
 use Rattle.air.specs.Air.{benchAir}
 use Rattle.record.specs.Record.{seatNumbers, lesson, freshBench, settled}
-use Rattle.bench.specs.Hearing.{packetSaid}
-use Rattle.bench.specs.Reporting.{reportBytes, reportRefusals, reportSaid, reportedBench}
+use Rattle.hearing.specs.Hearing.{packetSaid}
+use Rattle.reporting.specs.Reporting.{reportBytes, reportRefusals, reportSaid, reportedBench}
 use Rattle.bench.specs.Step.{Call, packet, report, Said, done, own, heard, ticked, written, told, step, after}
 use Rattle.record.specs.declared.setup.Setup.{Setup}
 use Rattle.record.specs.declared.whole.Bench.{Bench}

@@ -7,10 +7,10 @@ use lib.ListN.{length, drop}
 use lib.Seq.{take-at}
 use Rattle.packet.specs.Refusals.{Answer, accepted, mapped}
 use Rattle.writer.specs.Writing.{filled}
-use Rattle.bench.specs.Hearing.{audioIn}
-use Rattle.bench.specs.Reporting.{reportRefusals, reportSaid, reportBytes, reportBuffer}
+use Rattle.hearing.specs.Hearing.{audioIn}
+use Rattle.reporting.specs.Reporting.{reportRefusals, reportSaid, reportBytes, reportBuffer}
 use Rattle.bench.specs.Step.{own, done, told, written, step}
-use Rattle.bench.specs.declared.hearing.Hearing.{Hearing}
+use Rattle.hearing.specs.declared.hearing.Hearing.{Hearing}
 use Rattle.record.specs.declared.whole.Bench.{Bench}
 use Rattle.demands.specs.StepOfCode.{did, wasDone, tickedSets, heardWith, inFront, StepOfCode}
 use Rattle.packet.proofs.Judged.{judged-one}

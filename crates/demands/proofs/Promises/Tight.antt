@@ -11,11 +11,11 @@ use Rattle.text.proofs.Writing.{written-once}
 use Rattle.seats.specs.declared.opening.Opened.{Opened}
 use Rattle.seats.specs.declared.answer.Done.{Done}
 use Rattle.seats.specs.declared.ticking.Ticked.{Ticked}
-use Rattle.bench.specs.declared.hearing.Packeted.{Packeted}
-use Rattle.bench.specs.declared.reporting.Reported.{Reported}
-use Rattle.demands.specs.Tight.{TightBase, TightPacket, TightReader, TightWriter, TightRecord, TightSeats, TightAir, TightBench, TightText, TightWords, TightShow, TightGrammar, Tight}
+use Rattle.hearing.specs.declared.hearing.Packeted.{Packeted}
+use Rattle.reporting.specs.declared.reporting.Reported.{Reported}
+use Rattle.demands.specs.Tight.{TightBase, TightPacket, TightItems, TightReader, TightWriter, TightRecord, TightSeats, TightAir, TightHearing, TightReporting, TightText, TightWords, TightShow, TightGrammar, Tight}
 use Rattle.seats.proofs.TellApart.{open-tells, done-tells}
-use Rattle.bench.proofs.TellApart.{packet-tells}
+use Rattle.hearing.proofs.TellApart.{packet-tells}
 
 -- the promise is an equation for the result
 meet : {A : Type 0} {x y z : A} → x ≡ z → y ≡ z → x ≡ y
@@ -78,6 +78,9 @@ tight-packet = record {
   sqi-allowed = λ k a r s d e. meet;
 }
 
+pub tight-items : TightItems
+tight-items = record { items-in = λ k a r s d e. meet }
+
 pub tight-reader : TightReader
 tight-reader = record {
   read-tx = λ k a r s d e. told tx-tells;
@@ -96,6 +99,7 @@ tight-record = record {
   opened = λ k a r s d e. meet;
   fresh = λ k a r s d e. meet;
   no-such-seat = λ k a r s d e. meet;
+  place = λ k a r s d e p q. meet (p .0) (q .0);
   seat-of = λ k a r s d e. meet;
   lesson-seat = λ k a r s d e. meet;
   is-open = λ k a r s d e. meet;
@@ -123,10 +127,14 @@ tight-air = record {
   order-after = λ k a r s d e. meet;
 }
 
-pub tight-bench : TightBench
-tight-bench = record {
+pub tight-hearing : TightHearing
+tight-hearing = record {
   packet = λ k a r s d e p q. packeted-once (told packet-tells (p .0) (q .0)) (meet (p .1) (q .1));
   audio = λ k a r s d e p q. (meet (p .0) (q .0), same-place r s (p .1) (q .1));
+}
+
+pub tight-reporting : TightReporting
+tight-reporting = record {
   report = λ k a r s d e p q. (reported-once (told written-tells (p .0) (q .0)) (meet (p .1 .1) (q .1 .1)), meet (p .1 .0) (q .1 .0));
 }
 
@@ -176,12 +184,14 @@ pub tight : Tight
 tight = record {
   base = tight-base;
   packet = tight-packet;
+  items = tight-items;
   reader = tight-reader;
   writer = tight-writer;
   the-record = tight-record;
   seats = tight-seats;
   air = tight-air;
-  bench = tight-bench;
+  hearing = tight-hearing;
+  reporting = tight-reporting;
   text = tight-text;
   words = tight-words;
   show = tight-show;

@@ -32,8 +32,8 @@ cast-part c = search needs
 part-requires : tie.Need-part-requires
 part-requires c κs = search needs
 
-items-requires : tie.Need-items-requires
-items-requires c κs = search needs
+items-in-requires : tie.Need-items-in-requires
+items-in-requires c κs = search needs
 
 with-items-requires : tie.Need-with-items-requires
 unfolding afterField
@@ -42,7 +42,7 @@ with-items-requires c κs =
     let e = b .before .before .before .before in
     let p = e .before .before .before .args .p .now in
     let rest : b .part .result .now ≡ afterField p = b .part .ensures .0 ∙ simp (b .before .before .words-at .ensures, b .before .payload-at .ensures) in
-    c .items .ensures ∙ simp (rest, e .before .field .ensures, div-one)
+    c .items-in .ensures ∙ simp (rest, e .before .field .ensures, div-one)
 
 returns : tie.Need-returns
 unfolding contentAnswer itemsAnswer readerRefusals
@@ -73,7 +73,7 @@ content-spec =
     payload-at-requires
     cast-part
     part-requires
-    items-requires
+    items-in-requires
     with-items-requires
     returns
     returns-2)

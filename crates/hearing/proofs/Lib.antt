@@ -1,0 +1,5 @@
+pub mod Accepted
+pub mod Sides
+pub mod PacketSteps
+pub mod AudioSent
+pub mod TellApart

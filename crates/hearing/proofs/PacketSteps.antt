@@ -1,0 +1,159 @@
+-- The packet's call in steps: 13 and 14, then the reader's 1 to 12, then 19 to 23 of the message.
+use Prim.Native.Nat.{ℕ, _+_, _≤_, _<_, min}
+use mathlib.Core.Path.{_≡_, refl, ap, sym, _∙_}
+use mathlib.Core.Bool.{Bool, true, false, cond, not}
+use mathlib.Core.List.{List, [], _++_}
+use native.Mathlib.Omega.{arith}
+use borrow.Author.Tests.{le-leb, lt-leb}
+use lib.ListN.{length, getD}
+use Rattle.base.specs.Bytes.{partOf}
+use Rattle.base.specs.Order.{missing}
+use Rattle.packet.specs.Packet.{payload, payloadAt}
+use Rattle.packet.specs.Refusals.{Case, NoCase, Answer, accepted, refusal, verdictOf, judged, mapped}
+use Rattle.reader.specs.Reading.{readerRefusals, messageOf, asTx, read, readTx, txAnswer}
+use Rattle.packet.specs.declared.message.Direction.the-variants as direction
+use Rattle.packet.specs.declared.message.Tx.{Tx}
+use Rattle.packet.specs.declared.refusal.Refusal.{Refusal}
+use Rattle.packet.specs.declared.refusal.Verdict.{Verdict}
+use Rattle.packet.specs.declared.refusal.Verdict.the-variants.{Fine, Refused}
+use Rattle.reader.specs.declared.reading.TxRead.{TxRead}
+use Rattle.reader.specs.declared.reading.TxRead.the-variants as tx
+use Rattle.packet.proofs.Judged.{andThen, judged-mapped, by-verdict, meets-none, judged-split}
+use Rattle.reader.proofs.Passed.{Passed, length-most}
+use Rattle.record.specs.Record.{noSuchSeat, placeOf, closedSeat, seatOf}
+use Rattle.seats.specs.Opening.{seatRefusals, seatVerdict}
+use Rattle.hearing.specs.Hearing.{fieldHeard, messageIn, messageRefusals, packetRefusals, packetSaid, heardBench, sameField, isOnAir, isSent, hearing, audioIn, audioAt}
+use Rattle.hearing.specs.Pieces.{Whole, messageVerdict, letIn, admitted}
+use Rattle.record.specs.declared.setup.Setup.{Setup}
+use Rattle.record.specs.declared.seat.Field.{Field}
+use Rattle.record.specs.declared.seat.Seat.{Seat}
+use Rattle.record.specs.declared.whole.Bench.{Bench}
+use Rattle.hearing.specs.declared.hearing.Hearing.{Hearing}
+use Rattle.record.proofs.Seats.{placed}
+use Rattle.hearing.proofs.Accepted.{PacketAccepted, packet-accepted}
+
+-- ---- what passing a test leaves
+
+pub whole : (ext : ℕ) (p : List ℕ) → Passed direction.Tx ext p → Whole p
+whole ext p h = record { words = h .words-end; short = length-most direction.Tx ext p h }
+
+abbrev passes : Tx → Unit {0}
+passes m = tt
+
+module _ (ext : ℕ) (p : List ℕ) where
+  abbrev readers : List Case
+  readers = readerRefusals direction.Tx ext p
+
+  read-judged : readTx ext p ≡ judged readers (messageIn p)
+  unfolding readTx read
+  read-judged = judged-mapped asTx readers (messageOf p)
+
+  read-verdict : judged readers tt ≡ mapped passes (readTx ext p)
+  read-verdict = sym (judged-mapped passes readers (messageIn p)) ∙ ap (mapped passes) (sym read-judged)
+
+  module _ {t : TxRead} {m : Tx} (f : t ≡ tx.Message m) (e : txAnswer t ≡ readTx ext p) where
+    read-said : messageIn p ≡ m
+    read-said = meets-none readers (messageIn p) m (sym read-judged ∙ sym e ∙ ap txAnswer f) .1
+
+-- ---- the steps joined
+
+module _ (setup : Setup) (n : ℕ) (s : Seat) (p : List ℕ) where
+  in-steps : admitted setup n s p ≡ andThen (andThen (seatVerdict n (s .opened)) (mapped passes (readTx (setup .ext) p))) (letIn setup n s (messageIn p))
+  unfolding admitted packetRefusals seatVerdict letIn
+  in-steps =
+      judged-split (seatRefusals n (s .opened) ++ readers (setup .ext) p) (messageRefusals setup n s (messageIn p)) (messageIn p)
+      ∙ ap (λ (v : Answer (Unit {0})). andThen v (letIn setup n s (messageIn p)))
+      (judged-split (seatRefusals n (s .opened)) (readers (setup .ext) p) tt ∙ ap (andThen (seatVerdict n (s .opened))) (read-verdict (setup .ext) p))
+
+  module _ {v : Verdict} (e : verdictOf v ≡ seatVerdict n (s .opened)) where
+    pub by-seat : {r : Refusal} → v ≡ Refused r → refusal r ≡ admitted setup n s p
+    by-seat f = sym (in-steps ∙ simp (← e, f))
+
+    module _ {t : TxRead} (fine : v ≡ Fine) (k : txAnswer t ≡ readTx (setup .ext) p) where
+      pub by-reader : {r : Refusal} → t ≡ tx.Refused r → refusal r ≡ admitted setup n s p
+      by-reader f = sym (in-steps ∙ simp (← e, fine, ← k, f))
+
+      pub by-message : {m : Tx} → t ≡ tx.Message m → letIn setup n s m ≡ admitted setup n s p
+      by-message f = sym (in-steps ∙ simp (← e, fine, ← k, f, read-said (setup .ext) p f k))
+
+module _ (setup : Setup) (n : ℕ) (s : Seat) (m : Tx) where
+  decided : letIn setup n s m ≡ mapped (λ (u : Unit {0}). m) (messageVerdict setup n s m)
+  unfolding messageVerdict letIn
+  decided = by-verdict (messageRefusals setup n s m) m
+
+  module _ {v : Verdict} (e : verdictOf v ≡ messageVerdict setup n s m) where
+    pub message-refused : {r : Refusal} → v ≡ Refused r → refusal r ≡ letIn setup n s m
+    message-refused f = sym (decided ∙ simp (← e, f))
+
+    pub message-taken : v ≡ Fine → accepted m ≡ letIn setup n s m
+    message-taken f = sym (decided ∙ simp (← e, f))
+
+-- ---- the whole call, by what was admitted
+
+-- where 13 comes, the seat is not asked
+same-admitted : (setup : Setup) (n : ℕ) (s seat : Seat) (p : List ℕ) → (noSuchSeat n ≡ false → s ≡ seat) → admitted setup n s p ≡ admitted setup n seat p
+same-admitted setup n s seat p same = by-case (noSuchSeat n) refl
+  where
+    by-case : (none : Bool) → noSuchSeat n ≡ none → admitted setup n s p ≡ admitted setup n seat p
+    by-case true e = unfold admitted packetRefusals seatRefusals in simp e
+    by-case false e = ap (λ (z : Seat). admitted setup n z p) (same e)
+
+-- s is what stands at the place of seat n
+module _ (b : Bench) (n : ℕ) (p : List ℕ) (s : Seat) (i : ℕ) (at-place : i ≡ placeOf n) (stands : s ≡ getD (b .seats) i closedSeat)
+    (t : TxRead) (told : txAnswer t ≡ admitted (b .setup) n s p) where
+  here : noSuchSeat n ≡ false → s ≡ seatOf (b .seats) n
+  here real = placed (b .seats) n i at-place stands real
+
+  abbrev refusals : List Case
+  refusals = packetRefusals (b .setup) n (seatOf (b .seats) n) p
+
+  judged-here : judged refusals (messageIn p) ≡ txAnswer t
+  unfolding admitted
+  judged-here = sym (told ∙ same-admitted (b .setup) n s (seatOf (b .seats) n) p here)
+
+  pub packet-refused : {r : Refusal} → t ≡ tx.Refused r → packetSaid b n p ≡ refusal r
+  unfolding packetSaid
+  packet-refused {r} f =
+      sym (judged-mapped (λ (m : Tx). hearing b n p) refusals (messageIn p)) ∙ ap (mapped (λ (m : Tx). hearing b n p)) (judged-here ∙ ap txAnswer f)
+
+  module _ {m : Tx} (f : t ≡ tx.Message m) where
+    met : NoCase refusals × (messageIn p ≡ m)
+    met = meets-none refusals (messageIn p) m (judged-here ∙ ap txAnswer f)
+
+    pub says : messageIn p ≡ m
+    says = met .1
+
+    pub taken : PacketAccepted (b .setup) n (seatOf (b .seats) n) p
+    taken = packet-accepted (b .setup) n (seatOf (b .seats) n) p (met .0)
+
+    pub seen : s ≡ seatOf (b .seats) n
+    seen = here (taken .is-seat)
+
+    pub is-whole : Whole p
+    is-whole = whole (b .setup .ext) p (taken .was-read)
+
+    pub packet-said : packetSaid b n p ≡ accepted (hearing b n p)
+    unfolding packetSaid
+    packet-said = sym (judged-mapped (λ (m : Tx). hearing b n p) refusals (messageIn p)) ∙ ap (mapped (λ (m : Tx). hearing b n p)) (judged-here ∙ ap txAnswer f)
+
+-- what the call answers, from what the functions that it calls answered
+pub hearing-told : (b : Bench) (n : ℕ) (p : List ℕ) {s : Seat} {m : Tx} {after : Bench} {sent same : Bool} {new : Field} {lost at long : ℕ}
+    → s ≡ seatOf (b .seats) n → messageIn p ≡ m → after ≡ heardBench b n m → sent ≡ isOnAir after n → new ≡ fieldHeard m → same ≡ sameField (s .heard .field) new
+    → lost ≡ missing (s .heard .any) (s .heard .sequence) (m .sequence) → at ≡ cond sent (payloadAt p) 0 → long ≡ cond sent (length (payload p)) 0
+    → _≡_ {A = Hearing} (record { missing = lost; reply = not same; standby = after .standby; at = at; length = long }) (hearing b n p)
+unfolding hearing isSent
+hearing-told b n p seen is left air field compared count place size = simp (size, place, count, compared, field, air, left, ← is, seen)
+
+-- ---- the audio in the packet
+
+module _ (h : Hearing) (p : List ℕ) where
+  pub audio-there : h .at + h .length ≤ length p
+      → (partOf (h .at) (h .at + h .length) p ≡ audioIn (accepted h) p) × (min (h .at) (min (h .at + h .length) (length p)) ≡ audioAt (accepted h) p)
+  unfolding audioIn audioAt
+  audio-there l =
+      let start : min (h .at) (min (h .at + h .length) (length p)) ≡ h .at = omega arith in
+      (simp (le-leb _ _ l), simp (le-leb _ _ l) start)
+
+  pub audio-past : length p < h .at + h .length → ([] ≡ audioIn (accepted h) p) × (0 ≡ audioAt (accepted h) p)
+  unfolding audioIn audioAt
+  audio-past l = (simp (lt-leb _ _ l), simp (lt-leb _ _ l))

@@ -1,0 +1,14 @@
+use Rattle.hearing.specs.Hearing.{keyingBarred}
+use borrow.Author.Needs.{needs}
+use Rattle.hearing.proofs.admission.keying_barred.Statement.{statement}
+use Rattle.hearing.proofs.admission.keying_barred.Tie as tie
+
+may-key-requires : tie.Need-may-key-requires
+may-key-requires c κs = search needs
+
+returns : tie.Need-returns
+unfolding keyingBarred
+returns c = rw (← c .before .before .may-key .ensures)
+
+pub keying-barred-spec : {M : Type 1} → statement M
+keying-barred-spec = tie.close (tie.spec may-key-requires returns)

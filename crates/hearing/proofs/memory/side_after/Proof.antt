@@ -1,0 +1,18 @@
+use Rattle.hearing.specs.Hearing.{sideAfter}
+use borrow.Author.Needs.{needs}
+use Rattle.hearing.proofs.memory.side_after.Statement.{statement}
+use Rattle.hearing.proofs.memory.side_after.Tie as tie
+
+takes-effect-requires : tie.Need-takes-effect-requires
+takes-effect-requires c κs = search needs
+
+returns : tie.Need-returns
+unfolding sideAfter
+returns c = simp (← c .before .takes-effect .ensures, c .if1 .taken)
+
+returns-2 : tie.Need-returns-2
+unfolding sideAfter
+returns-2 c = simp (← c .before .takes-effect .ensures, c .if1 .left)
+
+pub side-after-spec : {M : Type 1} → statement M
+side-after-spec = tie.close (tie.spec takes-effect-requires returns returns-2)

@@ -1,0 +1,166 @@
+-- 01: "Packet for a seat." What it refuses, what it answers, and what the bench is after it.
+use Prim.Native.Nat.{ℕ, _+_, _*_, _-_}
+use mathlib.Core.Bool.{Bool, true, false, cond, not, _&&_, _||_, Bool·beq}
+use mathlib.Core.List.{List, [], _∷_, _++_}
+use lib.Dec.{eqb, leb}
+use lib.ListN.{length, set, getD}
+use Rattle.base.specs.Bytes.{partOf}
+use Rattle.base.specs.Order.{otherSsrc, late, missing}
+use Rattle.packet.specs.Packet.{payload, payloadAt, off, coupling, test}
+use Rattle.packet.specs.Refusals.{Case, _if_, Answer, accepted, refused, judged}
+use Rattle.reader.specs.Reading.{readerRefusals, messageOf, asTx}
+use Rattle.packet.specs.declared.message.Direction.the-variants as direction
+use Rattle.packet.specs.declared.message.ClimaxItem.{ClimaxItem}
+use Rattle.packet.specs.declared.message.ClimaxItem.the-variants as climax
+use Rattle.packet.specs.declared.message.SideItem.{SideItem}
+use Rattle.packet.specs.declared.message.SideItem.the-variants as side
+use Rattle.packet.specs.declared.message.Tx.{Tx}
+use Rattle.record.specs.Record.{seatOf, lesson, withSeat, withOrder, withSide}
+use Rattle.seats.specs.Opening.{isTxRx, mayKey, ownId, seatRefusals}
+use Rattle.air.specs.Air.{benchAir}
+use Rattle.air.specs.Order.{orderAfter}
+use Rattle.record.specs.declared.setup.Setup.{Setup}
+use Rattle.record.specs.declared.seat.Field.{Field}
+use Rattle.record.specs.declared.seat.Heard.{Heard}
+use Rattle.record.specs.declared.seat.Seat.{Seat}
+use Rattle.record.specs.declared.whole.Bench.{Bench}
+use Rattle.hearing.specs.declared.hearing.Hearing.{Hearing}
+
+-- What a seat keeps of a message: its field with its items.
+abbrev pub hasDelay : ClimaxItem → Bool
+hasDelay climax.Absent = false
+hasDelay (climax.Is v) = true
+
+abbrev pub delayOf : ClimaxItem → ℕ
+delayOf climax.Absent = 0
+delayOf (climax.Is v) = v
+
+abbrev pub hasSide : SideItem → Bool
+hasSide side.Absent = false
+hasSide side.Main = true
+hasSide side.Standby = true
+
+abbrev pub isStandby : SideItem → Bool
+isStandby side.Absent = false
+isStandby side.Main = false
+isStandby side.Standby = true
+
+unfoldable pub fieldHeard : Tx → Field
+fieldHeard m =
+    record {
+      ptt = m .ptt;
+      id = m .id;
+      pm = m .pm;
+      ptts = m .ptts;
+      delayed = hasDelay (m .climax);
+      delay = delayOf (m .climax);
+      sided = hasSide (m .side);
+      standby = isStandby (m .side);
+    }
+
+abbrev pub heardOf : Tx → Heard
+heardOf m = record { any = true; ssrc = m .ssrc; sequence = m .sequence; field = fieldHeard m }
+
+-- "21 | PTT on for Idle or Rxonly; Coupling PTT for TxRx; lesson seat with PTT on other than Test"
+abbrev pub pttOn : Tx → Bool
+pttOn m = not (eqb (m .ptt) off)
+
+unfoldable pub keyingBarred : (isLesson : Bool) (call : ℕ) → Tx → Bool
+keyingBarred isLesson call m =
+    (pttOn m && not (mayKey call)) || (eqb (m .ptt) coupling && isTxRx call) || (isLesson && pttOn m && not (eqb (m .ptt) test))
+
+-- "22 | ptt-id not the seat's own; with PTT off 0 also passes"
+unfoldable pub idAllowed : (own : ℕ) → Tx → Bool
+idAllowed own m = eqb (m .id) own || (not (pttOn m) && eqb (m .id) 0)
+
+-- "23 | main/standby item .. on a single radio; main/standby item from a lesson seat"
+unfoldable pub sideBarred : (isLesson pair : Bool) → Tx → Bool
+sideBarred isLesson pair m = hasSide (m .side) && (not pair || isLesson)
+
+abbrev pub messageIn : List ℕ → Tx
+messageIn p = asTx (messageOf p)
+
+-- 19 to 23, of a message that was read.
+unfoldable pub messageRefusals : Setup → (n : ℕ) → Seat → Tx → List Case
+messageRefusals setup n s m =
+    19 if otherSsrc (s .heard .any) (s .heard .ssrc) (m .ssrc)
+    ∷ 20 if late (s .heard .any) (s .heard .sequence) (m .sequence)
+    ∷ 21 if keyingBarred (lesson setup n) (s .call) m
+    ∷ 22 if not (idAllowed (ownId n (s .call)) m)
+    ∷ 23 if sideBarred (lesson setup n) (setup .pair) m
+    ∷ []
+
+-- "Packet 13, 14, 1 to 12, 19 to 23."
+unfoldable pub packetRefusals : Setup → (n : ℕ) → Seat → List ℕ → List Case
+packetRefusals setup n s p =
+    seatRefusals n (s .opened) ++ readerRefusals direction.Tx (setup .ext) p ++ messageRefusals setup n s (messageIn p)
+
+-- "Opening and each accepted packet set a seat's time left to period times multiplier ms." (A packet, here.)
+unfoldable pub heardSeat : Seat → Tx → Seat
+heardSeat s m =
+    record {
+      opened = s .opened;
+      call = s .call;
+      period = s .period;
+      multiplier = s .multiplier;
+      left = s .period * s .multiplier;
+      phase = s .phase;
+      ssrc = s .ssrc;
+      heard = heardOf m;
+    }
+
+-- "A main/standby item takes effect, setting the side in use, only where that seat's previous accepted packet carried the
+-- other value or no such item. Repeats do nothing."
+unfoldable pub takesEffect : (old new : Field) → Bool
+takesEffect old new = new .sided && not (old .sided && Bool·beq (old .standby) (new .standby))
+
+unfoldable pub sideAfter : (old new : Field) → (inUse : Bool) → Bool
+sideAfter old new inUse = cond (takesEffect old new) (new .standby) inUse
+
+-- The bench after an accepted message: its seat, the order of keyings, and the side in use.
+unfoldable pub heardBench : Bench → (n : ℕ) → Tx → Bench
+heardBench b n m =
+    let before = seatOf (b .seats) n in
+    let old = before .heard .field in
+    withSide (withOrder (withSeat b n (heardSeat before m)) (orderAfter n old (fieldHeard m) (b .order))) (sideAfter old (fieldHeard m) (b .standby))
+
+-- "Reply now exactly when the field with its items differs in meaning from the seat's previous accepted one."
+unfoldable pub sameField : (old new : Field) → Bool
+sameField old new =
+    eqb (old .ptt) (new .ptt) && eqb (old .id) (new .id) && Bool·beq (old .pm) (new .pm) && Bool·beq (old .ptts) (new .ptts)
+    && Bool·beq (old .delayed) (new .delayed) && eqb (old .delay) (new .delay)
+    && Bool·beq (old .sided) (new .sided) && Bool·beq (old .standby) (new .standby)
+
+abbrev pub isOnAir : Bench → (n : ℕ) → Bool
+isOnAir b n = getD (benchAir b .on) (n - 1) false
+
+-- "An accepted audio packet's payload is sent, to the side in use, exactly if its seat is on the air after it."
+unfoldable pub isSent : Bench → (n : ℕ) → Tx → Bool
+isSent b n m = isOnAir (heardBench b n m) n
+
+-- "Accepted, it answers: packets missing before it, whether to reply now, the side in use after it, and the audio to send"
+-- (where the audio lies in the packet: its payload, empty for R2S, if the seat is on the air after it; else nothing at place 0)
+unfoldable pub hearing : Bench → (n : ℕ) → List ℕ → Hearing
+hearing b n p =
+    let m = messageIn p in
+    let before = seatOf (b .seats) n .heard in
+    record {
+      missing = missing (before .any) (before .sequence) (m .sequence);
+      reply = not (sameField (before .field) (fieldHeard m));
+      standby = heardBench b n m .standby;
+      at = cond (isSent b n m) (payloadAt p) 0;
+      length = cond (isSent b n m) (length (payload p)) 0;
+    }
+
+unfoldable pub packetSaid : Bench → (n : ℕ) → List ℕ → Answer Hearing
+packetSaid b n p = judged (packetRefusals (b .setup) n (seatOf (b .seats) n) p) (hearing b n p)
+
+-- ".. which is the payload inside the caller's own packet, or an empty part" (also where answer and packet don't fit)
+unfoldable pub audioIn : Answer Hearing → List ℕ → List ℕ
+audioIn (accepted h) p = cond (leb (h .at + h .length) (length p)) (partOf (h .at) (h .at + h .length) p) []
+audioIn (refused n c) p = []
+
+-- where that part begins in the packet: behind the words if the seat is on the air, else at the packet's beginning
+unfoldable pub audioAt : Answer Hearing → List ℕ → ℕ
+audioAt (accepted h) p = cond (leb (h .at + h .length) (length p)) (h .at) 0
+audioAt (refused n c) p = 0

@@ -1,0 +1,64 @@
+// Whether a message is let in: refusals 19 to 23.
+ghost use mathlib.Core.Path.{_≡_};
+ghost use Rattle.packet.specs.Refusals.{verdictOf};
+ghost use Rattle.hearing.specs.Hearing.{keyingBarred, idAllowed, sideBarred};
+ghost use Rattle.hearing.specs.Pieces.{messageVerdict};
+use crate::memory::has_side;
+use base::late;
+use base::other_ssrc;
+use packet::Refusal;
+use packet::Tx;
+use packet::Verdict;
+use record::Seat;
+use record::Setup;
+use record::lesson_seat;
+use seats::opening::may_key;
+use seats::opening::own_id;
+
+// 19 to 23, in this order.
+pub fn message_verdict(setup: Setup, n: u8, s: Seat, m: Tx) -> Verdict
+    ensures { λ r. ⌜ verdictOf r ≡ messageVerdict setup n s m ⌝ }
+{
+    let heard = s.heard;
+    let lesson = lesson_seat(setup, n);
+    if other_ssrc(heard.any, heard.ssrc, m.ssrc) {
+        return Verdict::Refused(Refusal::OtherSsrc);
+    }
+    if late(heard.any, heard.sequence, m.sequence) {
+        return Verdict::Refused(Refusal::NotAfterLast);
+    }
+    if keying_barred(lesson, s.call, m) {
+        return Verdict::Refused(Refusal::KeyingNotAllowed);
+    }
+    if !id_allowed(own_id(n, s.call), m) {
+        return Verdict::Refused(Refusal::OtherId);
+    }
+    if side_barred(lesson, setup.pair, m) {
+        return Verdict::Refused(Refusal::SideNotAllowed);
+    }
+    Verdict::Fine
+}
+
+// 21: PTT on for Idle or Rxonly; Coupling PTT for TxRx; a lesson seat's PTT on other than Test.
+fn keying_barred(lesson: bool, call: u8, m: Tx) -> bool
+    ensures { λ r. ⌜ r ≡ keyingBarred lesson call m ⌝ }
+{
+    let on = m.ptt != 0;
+    (on & !may_key(call)) | ((m.ptt == 2) & (call == 2)) | (lesson & on & (m.ptt != 5))
+}
+
+// 22: the seat's own ptt-id, or 0 with PTT off.
+fn id_allowed(own: u8, m: Tx) -> bool
+    ensures { λ r. ⌜ r ≡ idAllowed own m ⌝ }
+{
+    let on = m.ptt != 0;
+    (m.id == own) | (!on & (m.id == 0))
+}
+
+// 23: a main/standby item on a single radio or from a lesson seat.
+fn side_barred(lesson: bool, pair: bool, m: Tx) -> bool
+    ensures { λ r. ⌜ r ≡ sideBarred lesson pair m ⌝ }
+{
+    let side = m.side;
+    has_side(side) & (!pair | lesson)
+}

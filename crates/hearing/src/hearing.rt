@@ -1,0 +1,159 @@
+// A packet for a seat.
+ghost use mathlib.Core.Path.{_≡_};
+ghost use mathlib.Core.Bool.{false, cond};
+ghost use lib.ListN.{length};
+ghost use Rattle.base.specs.Bytes.{LiesAt};
+ghost use Rattle.packet.specs.Packet.{payload, payloadAt};
+ghost use Rattle.record.specs.Record.{noSuchSeat, settled};
+ghost use Rattle.reader.specs.Reading.{txAnswer};
+ghost use Rattle.hearing.specs.Hearing.{messageIn, heardBench, isOnAir, packetSaid, audioIn, audioAt};
+ghost use Rattle.hearing.specs.Answers.{packetAnswer};
+ghost use Rattle.hearing.specs.Pieces.{Whole, admitted, letIn};
+use crate::admission::message_verdict;
+use crate::memory::field_heard;
+use crate::memory::heard_bench;
+use crate::memory::same_field;
+use air::air::bench_air;
+use base::missing;
+use base::part;
+use packet::Refusal;
+use packet::Tx;
+use packet::Verdict;
+use reader::TxRead;
+use reader::payload;
+use reader::read_tx;
+use record::Bench;
+use record::Seat;
+use record::Setup;
+use record::place;
+use seats::opening::seat_verdict;
+
+// What an accepted packet answers: packets missing before it, whether to reply now, the side in use after it, and where the
+// audio to send lies in the packet (0 and 0 where the seat is not on the air).
+#[repr(C)]
+pub struct Hearing {
+    pub missing: u16,
+    pub reply: bool,
+    pub standby: bool,
+    pub at: u32,
+    pub length: u32,
+}
+
+pub enum PacketAnswer {
+    Accepted(Hearing),
+    Refused(Refusal),
+}
+
+pub struct Packeted {
+    pub bench: Bench,
+    pub answer: PacketAnswer,
+}
+
+// A packet for seat n: what it answers, and the bench after it. Refused by 13, 14, 1 to 12, 19 to 23, in this order.
+pub fn packet(b: Bench, n: u8, p: &[u8]) -> Packeted
+    ensures answer { λ r. ⌜ packetAnswer (r .answer) ≡ packetSaid b n (now (p .entry)) ⌝ }
+    ensures bench { λ r. ⌜ r .bench ≡ settled (packetSaid b n (now (p .entry))) b (heardBench b n (messageIn (now (p .entry)))) ⌝ }
+{
+    let setup = b.setup;
+    let i = place(n);
+    let s = b.seats[i];
+    let told = admitted(setup, n, s, p);
+    match told {
+        TxRead::Refused(r) => Packeted {
+            bench: b,
+            answer: PacketAnswer::Refused(r),
+        },
+        TxRead::Message(m) => {
+            let after = heard_bench(b, n, s, m);
+            let sent = on_air(after, n);
+            let heard = s.heard;
+            let old = heard.field;
+            let same = same_field(old, field_heard(m));
+            let answer = PacketAnswer::Accepted(Hearing {
+                missing: missing(heard.any, heard.sequence, m.sequence),
+                reply: !same,
+                standby: after.standby,
+                at: sent_at(sent, p),
+                length: sent_length(sent, p),
+            });
+            Packeted {
+                bench: after,
+                answer,
+            }
+        }
+    }
+}
+
+// The audio to send, as a part of the lent packet; an empty part where there is none, or where answer and packet don't fit.
+pub fn audio(answer: PacketAnswer, p: &[u8]) -> &[u8]
+    ensures holds { λ r. ⌜ now r ≡ audioIn (packetAnswer answer) (now (p .entry)) ⌝ }
+    ensures lies { λ r. ⌜ LiesAt (p .entry) (audioAt (packetAnswer answer) (now (p .entry))) r ⌝ }
+{
+    match answer {
+        PacketAnswer::Refused(_) => part(p, 0, 0),
+        PacketAnswer::Accepted(h) => {
+            let from = h.at as usize;
+            let to = from + h.length as usize;
+            if to <= p.len() {
+                part(p, from, to)
+            } else {
+                part(p, 0, 0)
+            }
+        }
+    }
+}
+
+// The message of a packet that seat n takes; else the refusal. No bench is asked, so none is copied for a refusal.
+fn admitted(setup: Setup, n: u8, s: Seat, p: &[u8]) -> TxRead
+    ensures { λ r. ⌜ txAnswer r ≡ admitted setup n s (now (p .entry)) ⌝ }
+{
+    let verdict = seat_verdict(n, s.opened);
+    match verdict {
+        Verdict::Refused(r) => TxRead::Refused(r),
+        Verdict::Fine => {
+            let told = read_tx(setup.ext, p);
+            match told {
+                TxRead::Refused(r) => TxRead::Refused(r),
+                TxRead::Message(m) => let_in(setup, n, s, m),
+            }
+        }
+    }
+}
+
+// 19 to 23, of a message that was read.
+fn let_in(setup: Setup, n: u8, s: Seat, m: Tx) -> TxRead
+    ensures { λ r. ⌜ txAnswer r ≡ letIn setup n s m ⌝ }
+{
+    let verdict = message_verdict(setup, n, s, m);
+    match verdict {
+        Verdict::Refused(r) => TxRead::Refused(r),
+        Verdict::Fine => TxRead::Message(m),
+    }
+}
+
+fn on_air(b: Bench, n: u8) -> bool
+    requires { ⌜ noSuchSeat n ≡ false ⌝ }
+    ensures { λ r. ⌜ r ≡ isOnAir b n ⌝ }
+{
+    let air = bench_air(b);
+    air.on[(n - 1) as usize]
+}
+
+// Where the audio to send begins: behind the words, which is where the payload does.
+fn sent_at(sent: bool, p: &[u8]) -> u32
+    requires { ⌜ Whole (now p) ⌝ }
+    ensures { λ r. ⌜ r ≡ cond sent (payloadAt (now (p .entry))) 0 ⌝ }
+{
+    if sent {
+        (p.len() - payload(p).len()) as u32
+    } else {
+        0
+    }
+}
+
+fn sent_length(sent: bool, p: &[u8]) -> u32
+    requires { ⌜ Whole (now p) ⌝ }
+    ensures { λ r. ⌜ r ≡ cond sent (length (payload (now (p .entry)))) 0 ⌝ }
+{
+    if sent { payload(p).len() as u32 } else { 0 }
+}

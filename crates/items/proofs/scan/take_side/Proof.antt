@@ -1,0 +1,30 @@
+use native.Mathlib.Nat.{div-one}
+use Rattle.items.specs.Scan.{takeSide}
+use borrow.Author.Needs.{needs}
+use Rattle.items.proofs.scan.take_side.Statement.{statement}
+use Rattle.items.proofs.scan.take_side.Tie as tie
+
+side-free-requires : tie.Need-side-free-requires
+side-free-requires c κs = search needs
+
+side-of-requires : tie.Need-side-of-requires
+side-of-requires c κs = search needs
+
+at-requires : tie.Need-at-requires
+at-requires c κs = search needs
+
+at-requires-2 : tie.Need-at-requires-2
+at-requires-2 c κs = search needs
+
+returns : tie.Need-returns
+unfolding takeSide
+returns c = simp (div-one, c .at .ensures, c .before .side-of .ensures, ← c .before .before .before .side-free .ensures, c .before .before .if1 .taken)
+
+returns-2 : tie.Need-returns-2
+unfolding takeSide
+returns-2 c = simp (div-one, c .at2 .ensures, ← c .before .before .side-free .ensures, c .before .if1 .left)
+
+pub take-side-spec : {M : Type 1} → statement M
+take-side-spec =
+    tie.close
+    (tie.spec side-free-requires side-of-requires at-requires at-requires-2 returns returns-2)

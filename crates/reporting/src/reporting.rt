@@ -1,0 +1,175 @@
+// Reports to a seat: the message, the refusals in front of it, and the sequence number behind it.
+ghost use mathlib.Core.Path.{_≡_};
+ghost use mathlib.Core.Bool.{false};
+ghost use Prim.Native.Nat.{_+_, _%_};
+ghost use lib.ListN.{length};
+ghost use Rattle.writer.specs.Writing.{fromRx, write, buffered, writtenAnswer};
+ghost use Rattle.packet.specs.Refusals.{verdictOf};
+ghost use Rattle.record.specs.Record.{noSuchSeat, settled};
+ghost use Rattle.reporting.specs.Reporting.{idTold, sqiTold, sideTold, audioBarred, reportOf, reportSaid, reportBuffer, reportedBench};
+ghost use Rattle.reporting.specs.Pieces.{reportVerdict};
+use air::air::bench_air;
+use packet::Refusal;
+use packet::Rx;
+use packet::SideItem;
+use packet::SqiItem;
+use packet::Verdict;
+use packet::audio_length;
+use packet::quality;
+use record::Air;
+use record::Bench;
+use record::place;
+use seats::opening::seat_verdict;
+use writer::Written;
+use writer::write_rx;
+
+pub struct Reported {
+    pub bench: Bench,
+    pub answer: Written,
+}
+
+// A report for seat n, written into `out`: its length, and the bench with the next sequence number. Refused by 13, 14, 25, 26,
+// in this order; what a report tells is always writable, so that 27 never comes.
+pub fn report(b: Bench, n: u8, timestamp: u32, audio: &[u8], out: &mut [u8]) -> Reported
+    ensures answer { λ r. ⌜ writtenAnswer (r .answer) ≡ reportSaid b n timestamp (now (audio .entry)) (length (now (out .entry))) ⌝ }
+    ensures buffer { λ _. ⌜ now (out .exit) ≡ reportBuffer b n timestamp (now (audio .entry)) (now (out .entry)) ⌝ }
+    ensures bench { λ r. ⌜ r .bench ≡ settled (reportSaid b n timestamp (now (audio .entry)) (length (now (out .entry)))) b (reportedBench b n) ⌝ }
+{
+    let i = place(n);
+    let verdict = report_verdict(n, b.seats[i].opened, b.signals, audio.len());
+    match verdict {
+        Verdict::Refused(r) => Reported {
+            bench: b,
+            answer: Written::Refused(r),
+        },
+        Verdict::Fine => written(b, n, timestamp, audio, out),
+    }
+}
+
+// 13, 14 and 25.
+fn report_verdict(n: u8, opened: bool, signals: u8, audio: usize) -> Verdict
+    ensures { λ r. ⌜ verdictOf r ≡ reportVerdict n opened signals audio ⌝ }
+{
+    let verdict = seat_verdict(n, opened);
+    match verdict {
+        Verdict::Refused(r) => Verdict::Refused(r),
+        Verdict::Fine => {
+            let barred = audio_barred(signals, audio);
+            if barred {
+                Verdict::Refused(Refusal::ReportAudio)
+            } else {
+                Verdict::Fine
+            }
+        }
+    }
+}
+
+// 25: audio of another length than 10, 20 or 30 ms, or while no signal is received.
+fn audio_barred(signals: u8, audio: usize) -> bool
+    ensures { λ r. ⌜ r ≡ audioBarred signals audio ⌝ }
+{
+    let none = audio == 0;
+    let squ = 1 <= signals;
+    !(none | audio_length(audio)) | (!squ & !none)
+}
+
+// The report written, and the bench with the next sequence number if it was.
+fn written(b: Bench, n: u8, timestamp: u32, audio: &[u8], out: &mut [u8]) -> Reported
+    requires { ⌜ noSuchSeat n ≡ false ⌝ }
+    ensures answer { λ r. ⌜ writtenAnswer (r .answer) ≡ write (b .setup .ext) (fromRx (reportOf b n timestamp)) (now (audio .entry)) (length (now (out .entry))) ⌝ }
+    ensures buffer { λ _. ⌜ now (out .exit) ≡ buffered (b .setup .ext) (fromRx (reportOf b n timestamp)) (now (audio .entry)) (now (out .entry)) ⌝ }
+    ensures bench { λ r. ⌜ r .bench ≡ settled (writtenAnswer (r .answer)) b (reportedBench b n) ⌝ }
+{
+    let setup = b.setup;
+    let m = report_of(b, n, timestamp);
+    let answer = write_rx(setup.ext, m, audio, out);
+    match answer {
+        Written::Refused(_) => Reported { bench: b, answer },
+        Written::Length(_) => Reported {
+            bench: reported_bench(b, n),
+            answer,
+        },
+    }
+}
+
+// The report as a message.
+fn report_of(b: Bench, n: u8, timestamp: u32) -> Rx
+    requires { ⌜ noSuchSeat n ≡ false ⌝ }
+    ensures { λ r. ⌜ r ≡ reportOf b n timestamp ⌝ }
+{
+    let setup = b.setup;
+    let i = (n - 1) as usize;
+    let s = b.seats[i];
+    let heard = s.heard;
+    let field = heard.field;
+    let air = bench_air(b);
+    Rx {
+        sequence: b.sequences[i],
+        timestamp,
+        ssrc: s.ssrc,
+        ptt: air.ptt,
+        squ: 1 <= b.signals,
+        id: id_told(air, n),
+        pm: field.pm,
+        ptts: air.ptts,
+        sct: 2 <= b.signals,
+        sqi: sqi_told(b.signals, b.level),
+        side: side_told(setup.pair, b.standby),
+    }
+}
+
+// The seat's own ptt-id if it is on the air at the top rank, else the smallest there, 0 if nobody is.
+fn id_told(air: Air, n: u8) -> u8
+    requires { ⌜ noSuchSeat n ≡ false ⌝ }
+    ensures { λ r. ⌜ r ≡ idTold air n ⌝ }
+{
+    let i = (n - 1) as usize;
+    if air.leads[i] { n } else { air.id }
+}
+
+// Method RSSI, whose code is 0, exactly while a signal is received.
+fn sqi_told(signals: u8, level: i16) -> SqiItem
+    ensures { λ r. ⌜ r ≡ sqiTold signals level ⌝ }
+{
+    if 1 <= signals {
+        SqiItem::Is {
+            quality: quality(level),
+            method: 0,
+        }
+    } else {
+        SqiItem::Absent
+    }
+}
+
+fn side_told(pair: bool, standby: bool) -> SideItem
+    ensures { λ r. ⌜ r ≡ sideTold pair standby ⌝ }
+{
+    if pair {
+        if standby {
+            SideItem::Standby
+        } else {
+            SideItem::Main
+        }
+    } else {
+        SideItem::Absent
+    }
+}
+
+// The bench after a report was written: the seat's next sequence number.
+fn reported_bench(b: Bench, n: u8) -> Bench
+    requires { ⌜ noSuchSeat n ≡ false ⌝ }
+    ensures { λ r. ⌜ r ≡ reportedBench b n ⌝ }
+{
+    let i = (n - 1) as usize;
+    let last = b.sequences[i];
+    let mut after = b;
+    after.sequences[i] = next_sequence(last);
+    after
+}
+
+// One up, wrapping.
+fn next_sequence(last: u16) -> u16
+    ensures { λ r. ⌜ r ≡ (last + 1) % 65536 ⌝ }
+{
+    ((last as u32 + 1) % 65536) as u16
+}
