@@ -13,8 +13,8 @@ fn turn(packet: &mut [u8]) -> bool
     if io::read_full(STDIN_FILENO, &mut head) < 2 {
         return false;
     }
-    let length = base::join8(head[0], head[1]) as usize;
-    let n = io::read_full(STDIN_FILENO, &mut packet[0..length]);
+    let size = base::join8(head[0], head[1]) as usize;
+    let n = io::read_full(STDIN_FILENO, &mut packet[0..size]);
     let mut line = [0u8; 128];
     let end = show::decode(&mut line, 0x0167, &packet[0..n]);
     io::write_all(STDOUT_FILENO, &line[0..end])
