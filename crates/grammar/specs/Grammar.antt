@@ -21,9 +21,9 @@ setupIn s = do
   lessons ← seatsIn (wordOf s 1)
   ext ← hexIn (wordOf s 2)
   pair ← oneOf (wordOf s 3) (text "single pair") (false ∷ true ∷ [])
-  equal ← oneOf (wordOf s 4) (text "lockout summation") (false ∷ true ∷ [])
-  coupling ← oneOf (lastOf s 5) (text "interruption summation") (false ∷ true ∷ [])
-  Is (call.Setup (record { lessons = lessons; ext = ext; pair = pair; «equal_summation» = equal; «coupling_summation» = coupling }))
+  equalSummation ← oneOf (wordOf s 4) (text "lockout summation") (false ∷ true ∷ [])
+  couplingSummation ← oneOf (lastOf s 5) (text "interruption summation") (false ∷ true ∷ [])
+  Is (call.Setup (record { lessons = lessons; ext = ext; pair = pair; «equal_summation» = equalSummation; «coupling_summation» = couplingSummation }))
 
 -- "open SEAT idle|rxonly|txrx|coupling PERIOD MULTIPLIER SSRC SEQUENCE"
 unfoldable pub openIn : List ℕ → Said Call

@@ -23,6 +23,15 @@ pub enum CallType {
     Coupling,
 }
 
+// R2S period 20 to 1000 ms, multiplier 2 to 50.
+const SHORTEST: u16 = 20;
+
+const LONGEST: u16 = 1000;
+
+const FEWEST: u8 = 2;
+
+const MOST: u8 = 50;
+
 // What a seat is opened with.
 pub struct Request {
     pub call: CallType,
@@ -167,7 +176,10 @@ pub fn own_id(n: u8, call: u8) -> u8
 fn times_allowed(r: Request) -> bool
     ensures { λ t. ⌜ t ≡ timesAllowed r ⌝ }
 {
-    (20 <= r.period) & (r.period <= 1000) & (2 <= r.multiplier) & (r.multiplier <= 50)
+    (SHORTEST <= r.period)
+        & (r.period <= LONGEST)
+        & (FEWEST <= r.multiplier)
+        & (r.multiplier <= MOST)
 }
 
 fn asks_coupling(r: Request) -> bool

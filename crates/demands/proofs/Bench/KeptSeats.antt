@@ -18,7 +18,7 @@ use Rattle.packet.specs.declared.message.SideItem.{SideItem}
 use Rattle.packet.specs.declared.message.SideItem.the-variants as side
 use Rattle.packet.specs.declared.message.Tx.{Tx}
 use Rattle.record.specs.Record.{zeroField, closedSeat, openedSeat, seatOf, lesson}
-use Rattle.seats.specs.Opening.{callCode, isTxRx, isCoupling, ownId}
+use Rattle.seats.specs.Opening.{callCode, isTxRx, isCoupling, shortest, fewest, ownId}
 use Rattle.seats.specs.Ticking.{phaseAfter, aged, tickedSeat}
 use Rattle.hearing.specs.Hearing.{hasDelay, delayOf, hasSide, isStandby, fieldHeard, keyingBarred, idAllowed, sideBarred, messageIn, heardSeat}
 use Rattle.record.specs.declared.setup.Setup.{Setup}
@@ -122,7 +122,7 @@ call-code-known RxOnly = omega arith
 call-code-known TxRx = omega arith
 call-code-known Coupling = omega arith
 
-some-time : (period multiplier : ℕ) → 20 ≤ period → 2 ≤ multiplier → 1 ≤ period * multiplier
+some-time : (period multiplier : ℕ) → shortest ≤ period → fewest ≤ multiplier → 1 ≤ period * multiplier
 some-time period multiplier h k =
     let some-period : 0 < period = omega arith in
     let some-multiplier : 0 < multiplier = omega arith in

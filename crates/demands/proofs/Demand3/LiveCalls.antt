@@ -9,7 +9,7 @@ use Rattle.packet.specs.Packet.{test}
 use Rattle.packet.specs.Refusals.{Case, NoCase, accepted, judged, mapped}
 use Rattle.record.specs.Record.{seatOf, seatNumbers, noSuchSeat, closedSeat, lesson, withSide}
 use Rattle.seats.specs.Opening.{anyCoupling, openRefusals, openSaid, openedBench, seatRefusals, closeSaid, closedBench, seatVerdict}
-use Rattle.seats.specs.Ticking.{fallsSilent, isDue, tickedSeat, tickRefusals, tickSaid, tickSets, tickedBench}
+use Rattle.seats.specs.Ticking.{fallsSilent, isDue, tickedSeat, tooLong, tickRefusals, tickSaid, tickSets, tickedBench}
 use Rattle.seats.specs.Radio.{sideRefusals, sideSaid}
 use Rattle.bench.specs.Step.{Call, opening, closing, tick, side, Said, done, own, ticked, Outcome, outcome, step}
 use Rattle.record.specs.declared.setup.Setup.{Setup}
@@ -118,7 +118,7 @@ match-tick b ms =
     ticked-low : tickedBench (low b) ms ≡ low (tickedBench b ms)
     ticked-low = unfold tickedBench low tickedSeat in simp (map-blank closedSeat (tickedSeat ms) refl (b .setup .lesson) (b .seats))
 
-    sets-alike : ltb 1000 ms ≡ false
+    sets-alike : tooLong ms ≡ false
         → ticked (amongLive (b .setup) (tickSets (low b) ms .closed)) (amongLive (b .setup) (tickSets (low b) ms .due))
         ≡ ticked (amongLive (b .setup) (tickSets b ms .closed)) (amongLive (b .setup) (tickSets b ms .due))
     sets-alike e =
