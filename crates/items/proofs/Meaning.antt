@@ -7,7 +7,8 @@ use lib.Dec.{eqb}
 use Rattle.base.proofs.Truths.{push, either-way}
 use borrow.Author.Tests.{eqb-true}
 use Rattle.packet.specs.Items.{Item, Found, found, broken, behind, allZero, itemType, itemLength, itemsIn, someItem, runAllowed, itemsAllowed, itemsOf, listed, sqiAmong, climaxAmong, sideAmong, kept}
-use Rattle.items.specs.Scan.{scanAt, takeItem, scanOf, noItems, startIn, endOf, itemsRead}
+use Rattle.items.specs.Scan.{scanAt, takeItem, scanOf, noItems, startIn, endOf}
+use Rattle.items.specs.ItemsIn.{itemsRead}
 use Rattle.packet.specs.declared.message.Direction.{Direction}
 use Rattle.items.specs.declared.scan.Mode.the-variants.{Tail, First, Value}
 use Rattle.items.specs.declared.scan.ItemsRead.the-variants as read

@@ -1,2 +1,3 @@
--- What a run of bytes holds (`itemsRead`), and what the scan does to find it.
+-- What a run of bytes holds. (Scan: what the private functions do; the public promise does not need it.)
+pub mod ItemsIn
 pub mod Scan

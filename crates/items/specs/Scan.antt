@@ -1,10 +1,10 @@
--- What the reader does with one byte after another. (The scan's promises cite these. What the items mean stands in
--- packet/specs/Items.antt, and `itemsRead` is that meaning; proofs/Meaning.antt shows that the scan finds it.)
+-- For proofs alone: what the scan does with one byte after another. (Its private functions promise these; proofs/Meaning.antt
+-- shows that it finds `itemsRead`.)
 use Prim.Native.Nat.{ℕ}
 use mathlib.Core.Bool.{Bool, true, false, cond, not, _&&_}
 use mathlib.Core.List.{List, foldl}
 use lib.Dec.{eqb}
-use Rattle.packet.specs.Items.{itemType, itemLength, sqiType, climaxType, sideType, sqiQuality, sqiMethod, sqiAllowed, climaxDelay, climaxAllowed, sideAllowed, sideOf, itemsAllowed, itemsOf, kept}
+use Rattle.packet.specs.Items.{itemType, itemLength, sqiType, climaxType, sideType, sqiQuality, sqiMethod, sqiAllowed, climaxDelay, climaxAllowed, sideAllowed, sideOf}
 use Rattle.packet.specs.declared.message.Direction.{Direction}
 use Rattle.packet.specs.declared.message.Direction.the-variants.{Tx, Rx}
 use Rattle.packet.specs.declared.message.SqiItem.{SqiItem}
@@ -100,7 +100,3 @@ mayEnd Broken = false
 
 abbrev pub endOf : Scan → ItemsRead
 endOf s = cond (mayEnd (s .mode)) (read.Items (s .items)) read.Broken
-
--- what a run of bytes holds under X, as 01 says it
-unfoldable pub itemsRead : Direction → (x : ℕ) → List ℕ → ItemsRead
-itemsRead d x bytes = cond (itemsAllowed d x bytes) (read.Items (kept (itemsOf x bytes))) read.Broken

@@ -1,5 +1,5 @@
-// The items of a packet, read byte by byte. packet/specs/Items.antt has their meaning, and `items_in` promises it.
-// scan.rt goes from byte to byte, as specs/Scan.antt says; proofs/Meaning.antt shows that it finds that meaning.
+// The items of a packet, read byte by byte. Start at specs/ItemsIn.antt, which is what `items_in` promises, over the meaning of
+// items in packet/specs/Items.antt; then scan.rt.
 pub mod scan;
 
 pub use scan::ItemsRead;

@@ -1,8 +1,9 @@
 // The items, read byte by byte: what the bytes after the first two hold.
-// packet/specs/Items.antt has the meaning, specs/Scan.antt what one byte does; proofs/Meaning.antt shows that they agree.
+// specs/ItemsIn.antt has the meaning, specs/Scan.antt what one byte does; proofs/Meaning.antt shows that they agree.
 ghost use mathlib.Core.Path.{_≡_};
 ghost use Rattle.packet.specs.Items.{sideOf};
-ghost use Rattle.items.specs.Scan.{sqiFree, climaxFree, sideFree, scanAt, takeSqi, takeClimax, takeSide, takeItem, inZeros, behindItem, stepOf, scanOf, startIn, mayEnd, endOf, itemsRead};
+ghost use Rattle.items.specs.Scan.{sqiFree, climaxFree, sideFree, scanAt, takeSqi, takeClimax, takeSide, takeItem, inZeros, behindItem, stepOf, scanOf, startIn, mayEnd, endOf};
+ghost use Rattle.items.specs.ItemsIn.{itemsRead};
 use packet::ClimaxItem;
 use packet::Direction;
 use packet::Items;

@@ -5,7 +5,7 @@ use mathlib.Core.Bool.{Bool, true, false, cond}
 use mathlib.Core.List.{List}
 use lib.ListN.{take, drop}
 use Rattle.packet.specs.Items.{itemsAllowed, itemsOf, kept}
-use Rattle.items.specs.Scan.{itemsRead}
+use Rattle.items.specs.ItemsIn.{itemsRead}
 use Rattle.reader.specs.Reading.{readerRefusals, messageOf, read}
 use Rattle.reader.specs.Pieces.{headVerdict, extensionVerdict, contentAnswer}
 use Rattle.packet.specs.declared.message.Direction.{Direction}

@@ -7,7 +7,7 @@ ghost use Rattle.packet.specs.Items.{kept};
 ghost use Rattle.packet.specs.Packet.{field, x, afterField, payload, payloadAt, payloadAllowed, fieldAllowed};
 ghost use Rattle.reader.specs.Reading.{read, readTx, readRx, txAnswer, rxAnswer, asTx, asRx, itemsHere, messageOf};
 ghost use Rattle.reader.specs.Pieces.{readAnswer, itemsAnswer, payloadAnswer, contentAnswer};
-ghost use Rattle.items.specs.Scan.{itemsRead};
+ghost use Rattle.items.specs.ItemsIn.{itemsRead};
 use crate::frame::extension_verdict;
 use crate::frame::field;
 use crate::frame::head_verdict;
