@@ -4,7 +4,7 @@
   tests/driven.py [LINES]        LINES of a random session, 20,000 if not given
   tests/driven.py --save DIR     writes each input and its expected answers to DIR instead
 
-The console is run by ./ostalenc, which proves and builds it where it is not built yet.
+The console is run by ./ostalenc, which proves and builds it where it has changed.
 """
 
 import pathlib

@@ -6,7 +6,7 @@ but for what the demand allows).
 
   tests/soak.py [LINES] [SEED]     LINES a session, 20,000 if not given; without SEED a session for each choice of modes
 
-The console is run by ./ostalenc, which proves and builds it where it is not built yet.
+The console is run by ./ostalenc, which proves and builds it where it has changed.
 """
 
 import itertools
