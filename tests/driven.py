@@ -16,8 +16,10 @@ import time
 import console
 import model
 import usage
+from handmade import some_ddc
 from model import NORMAL, TEST
 from sessions import writers
+from sessions_ddc import ddc_at_length
 from sessions_lines import wrong_words
 from talk import PAIR, Sessions, sound
 
@@ -43,10 +45,11 @@ def long_session():
 
 
 def at_length():
-    """Every wrong word, and every write."""
+    """Every wrong word, every write, and type 4 items."""
     s = Sessions()
     wrong_words(s)
     writers(s)
+    ddc_at_length(s)
     return "".join(line + "\n" for line in s.lines).encode("latin-1")
 
 
@@ -110,12 +113,18 @@ class Random:
         field = model.Field(
             ptt=ptt, id=seat % 64 if r.random() < 0.9 else r.randrange(64), pm=int(r.random() < 0.1), ptts=int(r.random() < 0.2),
             climax=r.choice([None, None, 6, 127]), side=r.choice([None, None, None, 0, 1]))
-        data = bytearray(model.plain(model.TX, self.ext, model.Message(self.next[place], 0, seat, field), sound(seat % 16, r.choice([0, 0, 80, 160, 240]))))
+        return f"packet {seat} {self.bytes_of(model.TX, model.Message(self.next[place], 0, seat, field))}"
+
+    def bytes_of(self, direction, message):
+        """A packet in hex, some with type 4 items; now and then a bit is turned or the end cut."""
+        r, f = self.r, message.field
+        plain = model.plain(direction, self.ext, message, sound(message.ssrc % 16, r.choice([0, 0, 80, 160, 240])))
+        data = bytearray(some_ddc(r, plain, sum(item is not None for item in (f.sqi, f.climax, f.side)))[0])
         if r.random() < 0.1:
             data[r.randrange(len(data))] ^= 1 << r.randrange(8)
         if r.random() < 0.03:
             del data[r.randrange(len(data)) :]
-        return f"packet {seat} {r.choice([console.hexed(data), data.hex() or '-'])}"
+        return r.choice([console.hexed(data), data.hex() or "-"])
 
     def write(self):
         r = self.r
@@ -146,7 +155,13 @@ class Random:
         return f"side {pick(self.r, 'main', 'standby')}"
 
     def read(self):
-        return f"read {pick(self.r, 'tx', 'rx')}{self.packet()[8:]}"
+        r = self.r
+        if r.random() < 0.5:
+            return f"read {pick(r, 'tx', 'tx', 'rx')}{self.packet()[8:]}"
+        field = model.Field(
+            ptt=r.randrange(6), squ=r.randrange(2), id=r.randrange(64), pm=r.randrange(2), ptts=r.randrange(2), sct=r.randrange(2),
+            sqi=r.choice([None, (15, 0), (31, 3), (16, 0)]), side=r.choice([None, 0, 1]))
+        return f"read rx {self.bytes_of(model.RX, model.Message(r.randrange(65536), 0, 7, field))}"
 
     def junk(self):
         words = self.line().split(" ")

@@ -1,6 +1,6 @@
-"""An independent model of document 01: packets and the bench.
+"""An independent model of document 01, as the requests of document 02 change it: packets and the bench.
 
-It is written from 01's sentences alone, shares no code with the library and takes other
+It is written from their sentences alone, shares no code with the library and takes other
 ways where it can: fields are cut from a string of bits, items are a list of (type, value)
 pairs, and a keying keeps the number of the packet that began it, in a number without end.
 The tests work out their expected answers with it: `import model` gives both parts, packets

@@ -1,4 +1,4 @@
-"""Document 01's packets: what is read, what is written, what is turned away. Part of the model, see model.py."""
+"""Document 01's packets, with 02's first request: what is read, what is written, what is turned away. Part of the model, see model.py."""
 
 from dataclasses import dataclass, replace
 
@@ -32,7 +32,7 @@ TX, RX = "TX", "RX"
 OFF, NORMAL, COUPLING, PRIORITY, EMERGENCY, TEST = range(6)
 MAIN, STANDBY = 0, 1
 RSSI, AGC, CARRIER_TO_NOISE, PSD = range(4)
-SQI_TYPE, CLIMAX_TYPE, SIDE_TYPE = 1, 2, 5
+SQI_TYPE, CLIMAX_TYPE, DDC_TYPE, SIDE_TYPE = 1, 2, 4, 5
 AUDIO, R2S = 8, 123
 
 # "for 8 exactly 80, 160 or 240 bytes (10, 20, 30 ms)"
@@ -132,15 +132,15 @@ def read(direction, ext, packet):
         return Refused(10)
     field, x = first_two
     # 11: "items, or the bytes after the first two under that X, break a rule above"
-    pairs = items(direction, x, words[2:])
-    if pairs is None:
+    found = items(direction, x, words[2:])
+    if found is None:
         return Refused(11)
     # 12: "payload length": "The rest is payload: for 123 none; for 8 exactly 80, 160 or 240 bytes"
     if payload_type == R2S and len(payload) != 0:
         return Refused(12)
     if payload_type == AUDIO and len(payload) not in AUDIO_LENGTHS:
         return Refused(12)
-    return Message(sequence, timestamp, ssrc, with_items(field, pairs), payload)
+    return Message(sequence, timestamp, ssrc, with_items(field, found), payload)
 
 
 def first_two_bytes(direction, two):
@@ -168,33 +168,40 @@ def first_two_bytes(direction, two):
 
 
 def items(direction, x, rest):
-    """The items as a list of (type, value) pairs; None where a rule is broken."""
+    """The items as a list of (type, value bytes) in their order, type 4 among them; None where a rule is broken."""
     # "X = 0: all remaining bytes are zero." Of the words.
     if x == 0:
         return None if any(rest) else []
     # "X = 1: at least one item; a zero byte where an item would begin ends them,
-    #  and all bytes after it are zero."
-    pairs = []
+    #  and all bytes after it are zero." 02: "X = 1 with only such an item is fine"
+    found = []
     while rest and rest[0] != 0:
-        # "An item is one byte (type in the high half, length 1 in the low half) and one value byte."
+        # "An item is one byte (type in the high half, length .. in the low half)" and as many value bytes as it says
         item_type, length = rest[0] // 16, rest[0] % 16
-        if length != 1 or len(rest) < 2:
+        content, rest = rest[1 : 1 + length], rest[1 + length :]
+        # 02: "it now also covers an item of any type whose value runs past the words"
+        if len(content) < length:
             return None
-        if not item_allowed(direction, item_type, rest[1]):
+        if not item_allowed(direction, item_type, content):
             return None
-        pairs.append((item_type, rest[1]))
-        rest = rest[2:]
-    if any(rest) or not pairs:
+        found.append((item_type, content))
+    if any(rest) or not found:
         return None
-    # "No type comes twice; any order is read."
-    types = [item_type for item_type, _ in pairs]
+    # "No type comes twice; any order is read." 02: "11 no longer covers type 4, except a second one"
+    types = [item_type for item_type, _ in found]
     if len(set(types)) != len(types):
         return None
-    return pairs
+    return found
 
 
-def item_allowed(direction, item_type, byte):
-    b = bits([byte])
+def item_allowed(direction, item_type, content):
+    # 02: "one type 4 item of any length 0 to 15 is stepped over .., in TX and RX alike"
+    if item_type == DDC_TYPE:
+        return True
+    # "length 1 .. and one value byte"
+    if len(content) != 1:
+        return False
+    b = bits(content)
     # "1 SQI | RX | quality in the high 5 bits; method in the low 3: 0 RSSI, 1 AGC, 2 C/N, 3 PSD.
     #  With RSSI quality is 0 to 15, else 0 to 31"
     if item_type == SQI_TYPE and direction == RX:
@@ -206,18 +213,19 @@ def item_allowed(direction, item_type, byte):
     # "5 main/standby | both | high bit 0 main, 1 standby; the rest 0"
     if item_type == SIDE_TYPE:
         return "1" not in b[1:8]
-    # "Every other type is refused, type 4 (DDC) too"
+    # "Every other type is refused"
     return False
 
 
-def with_items(field, pairs):
-    for item_type, byte in pairs:
+def with_items(field, found):
+    # 02: "its value isn't kept": of type 4 the field has nothing
+    for item_type, content in found:
         if item_type == SQI_TYPE:
-            field = replace(field, sqi=(byte // 8, byte % 8))
+            field = replace(field, sqi=(content[0] // 8, content[0] % 8))
         if item_type == CLIMAX_TYPE:
-            field = replace(field, climax=byte % 128)
+            field = replace(field, climax=content[0] % 128)
         if item_type == SIDE_TYPE:
-            field = replace(field, side=byte // 128)
+            field = replace(field, side=content[0] // 128)
     return field
 
 
@@ -273,7 +281,7 @@ def refused_by_its_reader(direction, f, audio):
 
 
 def plain(direction, ext, message, audio):
-    # "Plain form: CC 0, items by rising type, the fewest words that hold them."
+    # "Plain form: CC 0, items by rising type, the fewest words that hold them." 02: "Writers never write it."
     f = message.field
     pairs = []
     if direction == RX and f.sqi is not None:

@@ -7,7 +7,8 @@
 stdin is a run of records: a two-byte big-endian length, then that many bytes. stdout has one
 line a record, as 01's program prints it for extension type hex 0167. The lines are worked out
 from 01 by tests/model.py, which shares no code with the library. Where a packet is built to
-break known cases, the number that 01's order gives is asserted here as well.
+break known cases, the number that 01's order gives is asserted here as well. Those of 02's
+first request are in tests/packets_ddc.py.
 """
 
 import itertools
@@ -15,56 +16,13 @@ import pathlib
 
 import model
 import usage
+from handmade import CLIMAX, EXT, MAIN, SQI, STANDBY, built, sound, words_of
+from packets_ddc import type_4
+from vectors import add, good, vectors
 
 ROOT = pathlib.Path(__file__).resolve().parent.parent
 CRATE = ROOT / "crates" / "decode_each"
 INPUT, EXPECTED = "stdin", "stdout"
-EXT = 0x0167
-
-CLIMAX = bytes([0x21, 0x86])
-STANDBY = bytes([0x51, 0x80])
-MAIN = bytes([0x51, 0x00])
-SQI = bytes([0x11, 0x38])
-
-vectors = []  # (group, packet)
-
-
-def add(group, packet, number=None):
-    """number: the refusal that 01's order gives, where it is plain to see."""
-    got = model.read(model.TX, EXT, packet)
-    if number is not None:
-        assert got == model.Refused(number), (group, packet.hex(), number, got)
-    vectors.append((group, packet))
-
-
-def good(group, packet):
-    assert isinstance(model.read(model.TX, EXT, packet), model.Message), (group, packet.hex())
-    vectors.append((group, packet))
-
-
-def sound(length):
-    return bytes((7 * i + 1) % 256 for i in range(length))
-
-
-def words_of(field, items=b"", count=None):
-    """field is the first two bytes as a number; zero bytes fill the words."""
-    words = field.to_bytes(2, "big") + items
-    count = (len(words) + 3) // 4 if count is None else count
-    return words + bytes(4 * count - len(words))
-
-
-def built(
-    version=2, padding=0, extension=1, cc=0, marker=0, kind=123, sequence=1, timestamp=0, ssrc=7,
-    ext=EXT, count=None, words=None, payload=b"", cut=None,
-):
-    words = words_of(0x2080) if words is None else words
-    count = len(words) // 4 if count is None else count
-    head = bytes([version * 64 + padding * 32 + extension * 16 + cc, marker * 128 + kind])
-    head += sequence.to_bytes(2, "big") + timestamp.to_bytes(4, "big") + ssrc.to_bytes(4, "big")
-    csrc = b"".join((0xC0FFEE00 + i).to_bytes(4, "big") for i in range(cc))
-    whole = head + csrc + ext.to_bytes(2, "big") + count.to_bytes(2, "big") + words + payload
-    return whole if cut is None else whole[:cut]
-
 
 # 01's printed packets and fields
 good("the program's example", bytes.fromhex("907B000100000000000000070167000120800000"))
@@ -153,16 +111,16 @@ for size in range(1, 4):
 for chosen in ((CLIMAX, CLIMAX), (STANDBY, STANDBY), (MAIN, STANDBY), (CLIMAX, STANDBY, CLIMAX), (STANDBY, CLIMAX, MAIN), (CLIMAX, CLIMAX, STANDBY)):
     add("a type twice", built(words=words_of(0x2081, b"".join(chosen))), 11)
 for item_type in range(16):
-    refused = None if item_type in (2, 5) else 11
+    refused = None if item_type in (2, 4, 5) else 11
     add("each type alone, value 80", built(words=words_of(0x2081, bytes([item_type * 16 + 1, 0x80]))), refused)
-    add("each type behind CLIMAX", built(words=words_of(0x2081, CLIMAX + bytes([item_type * 16 + 1, 0x80]))), None if item_type == 5 else 11)
+    add("each type behind CLIMAX", built(words=words_of(0x2081, CLIMAX + bytes([item_type * 16 + 1, 0x80]))), None if item_type in (4, 5) else 11)
 for length in range(16):
     refused = None if length == 1 else 11
     add("length of a CLIMAX item", built(words=words_of(0x2081, bytes([0x20 + length, 0x86]) + bytes(16))), refused)
     add("length of a main/standby item", built(words=words_of(0x2081, bytes([0x50 + length, 0x80]) + bytes(16))), refused)
     add("a byte 00 to 0F where an item would begin", built(words=words_of(0x2081, bytes([length, 0]))), 11)
     add("a byte 00 to 0F behind an item", built(words=words_of(0x2081, STANDBY + bytes([length, 0]))), None if length == 0 else 11)
-add("type 4 of length 0", built(words=words_of(0x2081, STANDBY + b"\x40\x00")), 11)
+good("type 4 of length 0", built(words=words_of(0x2081, STANDBY + b"\x40\x00")))
 for byte in (0x00, 0x01, 0x06, 0x7F, 0x80, 0x81, 0x86, 0xFE, 0xFF):
     add("value of CLIMAX", built(words=words_of(0x2081, bytes([0x21, byte]))))
 for byte in (0x00, 0x01, 0x02, 0x10, 0x40, 0x7F, 0x80, 0x81, 0xC0, 0xFF):
@@ -279,6 +237,8 @@ for length in (377, 400):
     add("long, other extension type", built(ext=0x0168) + more[20:], 7)
 add("5000 zero bytes", bytes(5000), 2)
 good("a short packet behind a long one", built())
+
+type_4()
 
 
 def listed(lines):

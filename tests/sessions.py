@@ -15,6 +15,7 @@ import model
 import usage
 import written
 from sessions_air import air, time
+from sessions_ddc import ddc_items
 from sessions_lines import lines
 from sessions_packets import packets
 from sessions_printed import printed_examples, traps
@@ -51,7 +52,7 @@ def main():
     folder = pathlib.Path(given[0]) if given else CRATE
     folder.mkdir(parents=True, exist_ok=True)
     s = Sessions()
-    for part in (printed_examples, traps, refusals, time, air, packets, lines):
+    for part in (printed_examples, traps, refusals, time, air, packets, ddc_items, lines):
         part(s)
     s.save(folder)
     print(f"{s.sessions} sessions, {len(s.lines)} lines, {len(s.answers)} answers; written to {folder}")

@@ -1,8 +1,8 @@
 #!/usr/bin/env python3
 """Runs long random sessions of well-formed calls on the console and checks what needs no second implementation:
 no `error:` line; the same session twice gives the same answers; a refused call changes nothing (the session without
-its refused calls answers the same); and demand 3 (the session without its lesson calls answers live seats the same,
-but for what the demand allows).
+its refused calls answers the same); a type 4 item is stepped over (the session without them answers the same); and
+demand 3 (the session without its lesson calls answers live seats the same, but for what the demand allows).
 
   tests/soak.py [LINES] [SEED]     LINES a session, 20,000 if not given; without SEED a session for each choice of modes
 
@@ -16,6 +16,7 @@ import subprocess
 import sys
 
 import usage
+from handmade import built, some_ddc, words_of
 
 ROOT = pathlib.Path(__file__).resolve().parent.parent
 LESSONS = "78"
@@ -31,31 +32,36 @@ def answers(lines):
 
 
 def a_packet(r, seat, sequence):
-    """A plain TX packet, now and then with a bit turned or its end cut."""
+    """A TX packet, now and then with a bit turned or its end cut; and the same without a type 4 item that is stepped over."""
     ptt = r.choice([0, 0, 1, 1, 2, 3, 4, TEST, TEST, TEST])
-    items = b"".join(r.sample([bytes([0x21, 0x80 + r.randrange(128)]), bytes([0x51, r.choice([0, 0x80])])], r.choice([0, 0, 0, 1, 2])))
+    items = r.sample([bytes([0x21, 0x80 + r.randrange(128)]), bytes([0x51, r.choice([0, 0x80])])], r.choice([0, 0, 0, 1, 2]))
     field = ptt << 13 | seat << 6 | (r.random() < 0.1) << 5 | (r.random() < 0.2) << 4 | bool(items)
-    words = field.to_bytes(2, "big") + items
-    words += bytes(-len(words) % 4)
     audio = bytes(r.choice([0, 0, 80, 160, 240]))
-    head = bytes([0x90, 8 if audio else 123]) + sequence.to_bytes(2, "big") + bytes(4) + seat.to_bytes(4, "big")
-    data = bytearray(head + b"\x01\x67" + (len(words) // 4).to_bytes(2, "big") + words + audio)
+    plain = built(kind=8 if audio else 123, sequence=sequence, ssrc=seat, words=words_of(field, b"".join(items)), payload=audio)
+    whole, same = some_ddc(r, plain, len(items))
+    data = bytearray(whole)
     if r.random() < 0.08:
         data[r.randrange(len(data))] ^= 1 << r.randrange(8)
     if r.random() < 0.03:
         del data[r.randrange(len(data)) :]
-    return data.hex() or "-"
+    without = plain if same and data == whole else data
+    return data.hex() or "-", without.hex() or "-"
 
 
 def session(count, seed):
+    """The lines, and by their number those that hold a type 4 item, without it."""
     r = random.Random(seed)
     lines, sequence = [f"setup {LESSONS} 0167 {' '.join(MODES[seed % len(MODES)])}"], [0] * 10
+    without = {}
     while len(lines) < count:
         seat = r.choice([1, 2, 3, 4, 5, 6, 7, 8, 7, 8] * 3 + [0, 9])
         kind = r.choices(["packet", "report", "tick", "open", "close", "received", "transmitter", "side"], [40, 26, 5, 6, 1, 4, 2, 2])[0]
         if kind == "packet":
             sequence[seat] = (sequence[seat] + r.choice([1] * 16 + [2, 9, 0, 32767])) % 65536
-            lines.append(f"packet {seat} {a_packet(r, seat, sequence[seat])}")
+            data, plain = a_packet(r, seat, sequence[seat])
+            if plain != data:
+                without[len(lines)] = f"packet {seat} {plain}"
+            lines.append(f"packet {seat} {data}")
         elif kind == "report":
             audio = "00" * r.choice([0, 0, 80, 160, 240, 1]) or "-"
             lines.append(f"report {seat} {r.randrange(2**32)} {audio} {r.choice([20, 24, 264, 512, 0])}")
@@ -67,7 +73,7 @@ def session(count, seed):
                      "received": f"{r.choice([0, 1, 2, 255])} {r.randrange(-120, -50)}",
                      "transmitter": r.choice(["healthy", "healthy", "healthy", "unhealthy"]), "side": r.choice(["main", "standby"])}
             lines.append(f"{kind} {words[kind]}")
-    return lines
+    return lines, without
 
 
 def names_a_lesson(line):
@@ -115,7 +121,7 @@ def fail(what, lines, number):
 
 
 def soak(count, seed):
-    lines = session(count, seed)
+    lines, without = session(count, seed)
     first = answers(lines)
     if len(first) != len(lines):
         sys.exit(f"FAIL: {len(lines)} calls, {len(first)} answers")
@@ -129,6 +135,9 @@ def soak(count, seed):
     for i, answer in zip(kept, again):
         if answer != first[i]:
             fail("a refused call before it changed the answer", lines, i)
+    for i, answer in enumerate(answers([without.get(i, line) for i, line in enumerate(lines)])):
+        if answer != first[i]:
+            fail("a type 4 item in it or before it changed the answer", lines, i)
     live = [i for i, line in enumerate(lines) if not names_a_lesson(line)]
     alone = answers([lines[i] for i in live])
     for i, answer in zip(live, alone):
@@ -136,7 +145,8 @@ def soak(count, seed):
             fail("a lesson call before it changed what a live seat is told", lines, i)
     differing = sum(first[i] != answer for i, answer in zip(live, alone))
     refused = len(first) - len(kept)
-    print(f"seed {seed}: {len(lines)} calls, {refused} refused; {len(lines) - len(live)} lesson calls left out, {differing} live answers differed as demand 3 allows")
+    print(f"seed {seed}: {len(lines)} calls, {refused} refused; {len(without)} type 4 items left out; "
+          f"{len(lines) - len(live)} lesson calls left out, {differing} live answers differed as demand 3 allows")
 
 
 def main():

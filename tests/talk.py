@@ -2,6 +2,7 @@
 
 import console
 import model
+from handmade import with_ddc
 from model import OFF
 
 PAIR = "setup 78 0167 pair lockout interruption"
@@ -60,14 +61,15 @@ class Sessions:
             own = digit if call in ("txrx", "coupling") else "0"
             self.say(f"open {digit} {call} {period} {multiplier} {digit}00 {sequence}", f"ok id={own}")
 
-    def bytes_of(self, seat, ptt=OFF, id=None, pm=0, ptts=0, cld=None, mss=None, audio=0, sequence=None, ssrc=None):
-        """The next packet of a seat, in plain form."""
+    def bytes_of(self, seat, ptt=OFF, id=None, pm=0, ptts=0, cld=None, mss=None, audio=0, sequence=None, ssrc=None, ddc=b"", at=0):
+        """The next packet of a seat, in plain form but for a type 4 item behind the first `at` bytes of its items."""
         if sequence is None:
             sequence = self.next[seat]
         self.next[seat] = (sequence + 1) % 65536
         field = model.Field(ptt=ptt, id=seat if id is None else id, pm=pm, ptts=ptts, climax=cld, side=mss)
         message = model.Message(sequence, 0, seat if ssrc is None else ssrc, field)
-        return model.plain(model.TX, self.console.bench.setup.ext, message, sound(seat, audio))
+        packet = model.plain(model.TX, self.console.bench.setup.ext, message, sound(seat, audio))
+        return with_ddc(packet, ddc, at) if ddc else packet
 
     def raw(self, seat, packet, expected):
         return self.say(f"packet {seat} {console.hexed(packet)}", expected)

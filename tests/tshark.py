@@ -18,12 +18,15 @@ from dataclasses import replace
 import model
 import usage
 import written
+from handmade import CLIMAX, SQI, STANDBY, built, ddc, words_of
 from model import COUPLING, EMERGENCY, NORMAL, OFF, PRIORITY, TEST, Field
 
 PROGRAM = [str(written.ROOT / "ostalenc"), "write_each"]
 EXT = 0x0167
 PORT = 5004
 HEADER = "rtp.ext.ed137a"
+# a type 4 value of one of these lengths is shown as a measurement, any other as its bytes
+MEASUREMENTS = (3, 12, 14)
 
 # name here, tshark's field
 COMPARED = [
@@ -52,7 +55,7 @@ COMPARED = [
     ("SQI method", f"{HEADER}.ft.sqi.qidx-ml"),
     ("CLIMAX high bit", f"{HEADER}.ft.climax_delay.mode"),
     ("CLIMAX delay", f"{HEADER}.ft.climax_delay.absolute_value"),
-    ("main/standby byte", f"{HEADER}.ft.value"),
+    ("values of types 4 and 5", f"{HEADER}.ft.value"),
     ("payload", "rtp.payload"),
 ]
 
@@ -92,36 +95,57 @@ def packets():
     head = "927B0001000000A000000007" + "AAAAAAAABBBBBBBB" + "01670004"
     yield model.TX, bytes.fromhex(head + "2081" + "5180" + "2186" + "00" * 10)
     yield model.RX, bytes.fromhex(head + "10A9" + "5180" + "1138" + "00" * 10)
+    yield from with_type_4()
 
 
-def values(message, cc, word_count, types):
+def with_type_4():
+    """(direction, packet): each length alone, first, between, last, and with audio behind."""
+    for length in range(16):
+        item = ddc(length)
+        for direction, field, other in ((model.TX, 0x2081, CLIMAX), (model.RX, 0x1009, SQI)):
+            for items in (item, item + other + STANDBY, other + item + STANDBY, other + STANDBY + item):
+                yield direction, built(words=words_of(field, items))
+            yield direction, built(words=words_of(field, item + other), kind=8, payload=sound(80))
+
+
+def shown(item_type, content):
+    """What tshark shows of an item as bytes; its text for no bytes."""
+    if item_type not in (model.DDC_TYPE, model.SIDE_TYPE) or (item_type == model.DDC_TYPE and len(content) in MEASUREMENTS):
+        return ""
+    return content.hex() or "<MISSING>"
+
+
+def values(message, cc, word_count, items):
     """The values of COMPARED, in its order; what is absent is an empty text."""
     f = message.field
     rtp = [2, 0, 1, cc, 0, message.kind, message.sequence, message.timestamp, message.ssrc, EXT, word_count]
-    field = [f.ptt, f.squ, f.id, f.pm, f.ptts, f.sct, 0, 1 if types else 0]
-    listed = " ".join(str(item_type) for item_type in types)
-    lengths = " ".join("1" for _ in types)
+    field = [f.ptt, f.squ, f.id, f.pm, f.ptts, f.sct, 0, 1 if items else 0]
+    types = " ".join(str(item_type) for item_type, _ in items)
+    lengths = " ".join(str(len(content)) for _, content in items)
     sqi = f.sqi or ("", "")
     climax = ("", "") if f.climax is None else (1, f.climax)
-    side = "" if f.side is None else f"{128 * f.side:02x}"
-    return [str(v) for v in (*rtp, *field, listed, lengths, *sqi, *climax, side, message.audio.hex())]
+    contents = " ".join(filter(None, (shown(*item) for item in items)))
+    return [str(v) for v in (*rtp, *field, types, lengths, *sqi, *climax, contents, message.audio.hex())]
 
 
 def by_the_model(direction, packet):
     message = model.read(direction, EXT, packet)
     cc = packet[0] % 16
     words = packet[16 + 4 * cc : len(packet) - len(message.audio)]
-    types = [item_type for item_type, _ in model.items(direction, words[1] % 2, words[2:])]
-    return values(message, cc, len(words) // 4, types)
+    return values(message, cc, len(words) // 4, model.items(direction, words[1] % 2, words[2:]))
 
 
 def by_the_record(write):
     """What the record asked for, in the plain form; the packet is not looked at."""
-    f = write.message.field
-    items = ((model.SQI_TYPE, f.sqi), (model.CLIMAX_TYPE, f.climax), (model.SIDE_TYPE, f.side))
-    types = [item_type for item_type, item in items if item is not None]
+    f, items = write.message.field, []
+    if f.sqi is not None:
+        items.append((model.SQI_TYPE, bytes([8 * f.sqi[0] + f.sqi[1]])))
+    if f.climax is not None:
+        items.append((model.CLIMAX_TYPE, bytes([128 + f.climax])))
+    if f.side is not None:
+        items.append((model.SIDE_TYPE, bytes([128 * f.side])))
     message = replace(write.message, audio=written.sound(write.audio))
-    return values(message, 0, 2 if len(types) > 1 else 1, types)
+    return values(message, 0, 2 if len(items) > 1 else 1, items)
 
 
 def made_by_the_model():
@@ -162,7 +186,7 @@ def seen_by_tshark(datagrams):
 
 def same(name, ours, theirs):
     """tshark writes some numbers in hex; bytes are compared as they are."""
-    if name in ("main/standby byte", "payload"):
+    if name in ("values of types 4 and 5", "payload"):
         return ours == theirs
     return [int(n, 0) for n in ours.split()] == [int(n, 0) for n in theirs.split()]
 

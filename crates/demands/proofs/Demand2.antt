@@ -9,9 +9,11 @@ pub mod AllowedItems
 pub mod Parts
 pub mod ReadBack
 pub mod Written
+pub mod Laid
 pub mod RoundTrip
 pub mod Accepted
 pub mod Rewrite
+pub mod SteppedOver
 pub mod BothWays
 pub mod Examples
 pub mod Nodding

@@ -1,5 +1,5 @@
 -- Demand 2 of the code: "What the writers write reads back the same; an accepted plain packet is rewritten to the same
--- bytes." RoundTrip and Rewrite say so of the definitions; here are the functions, by their promises (as in Tight).
+-- bytes", since 02 one without a type 4 item. RoundTrip and Rewrite say so of the definitions; here are the functions, by their promises (as in Tight).
 use Prim.Native.Nat.{ℕ, _≤_}
 use mathlib.Core.Path.{_≡_}
 use mathlib.Core.List.{List, _++_}
@@ -16,6 +16,7 @@ use Rattle.writer.specs.declared.writing.Written.the-variants as written
 use Rattle.reader.proofs as reader
 use Rattle.writer.proofs as writer
 use Rattle.demands.specs.Plain.{Plain}
+use Rattle.demands.specs.Rewrite.{WithoutDdc}
 use Rattle.demands.specs.RoundTrip.{Narrow}
 use Rattle.demands.specs.StepOfCode.{Gives}
 
@@ -47,10 +48,10 @@ pub record BothWays : Type 1 where
   pub written-rx : Gives writer.write_rx.Reads.Learnt (λ k (ext, (m, (sound, (out, end)))) w e.
       (long : ℕ) → w ≡ written.Length long → Narrow ext (fromRx m)
       → ReadsRx ext (take long (now (e .1 .1 .1 .0))) m × HandsOut (take long (now (e .1 .1 .1 .0))) (now sound))
-  -- what was read of a plain packet is written to the same bytes, into every buffer with room for them
+  -- what was read of a plain packet without a type 4 item is written to the same bytes, into every buffer with room for them
   pub read-tx : Gives reader.read_tx.Reads.Learnt (λ k (ext, (p, end)) r e.
-      (m : Tx) → r ≡ tx.Message m → Bytes (now p) → Plain (now p) → (buffer : List ℕ) → length (now p) ≤ length buffer
+      (m : Tx) → r ≡ tx.Message m → Bytes (now p) → Plain (now p) → WithoutDdc (now p) → (buffer : List ℕ) → length (now p) ≤ length buffer
       → WritesTx ext m (payload (now p)) buffer (length (now p)) (now p ++ drop (length (now p)) buffer))
   pub read-rx : Gives reader.read_rx.Reads.Learnt (λ k (ext, (p, end)) r e.
-      (m : Rx) → r ≡ rx.Message m → Bytes (now p) → Plain (now p) → (buffer : List ℕ) → length (now p) ≤ length buffer
+      (m : Rx) → r ≡ rx.Message m → Bytes (now p) → Plain (now p) → WithoutDdc (now p) → (buffer : List ℕ) → length (now p) ≤ length buffer
       → WritesRx ext m (payload (now p)) buffer (length (now p)) (now p ++ drop (length (now p)) buffer))

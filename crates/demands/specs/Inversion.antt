@@ -19,7 +19,7 @@ laid csrc kind ext words m is sound =
     bytes8 (placed 8 0 2 2 + placed 8 3 1 1 + placed 8 4 4 (length csrc / 4)) ++ bytes8 kind
     ++ bytes16 (m .sequence) ++ bytes32 (m .timestamp) ++ bytes32 (m .ssrc) ++ csrc
     ++ bytes16 ext ++ bytes16 words
-    ++ bytes16 (fieldOf m is) ++ itemBytes is ++ replicate (4 * words - (2 + 2 * length is)) 0
+    ++ bytes16 (fieldOf m is) ++ itemBytes is ++ replicate (4 * words - (2 + length (itemBytes is))) 0
     ++ sound
 
 unfoldable pub csrcWords : List ℕ → List ℕ

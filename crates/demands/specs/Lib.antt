@@ -6,6 +6,7 @@ pub mod Plain
 pub mod Inversion
 pub mod RoundTrip
 pub mod Rewrite
+pub mod SteppedOver
 pub mod Examples
 pub mod SeatAfter
 pub mod Kept

@@ -11,7 +11,7 @@ use lib.Seq.{take-all}
 use Rattle.base.specs.Bytes.{partOf}
 use Rattle.packet.specs.Packet.{payload, payloadAt}
 use Rattle.packet.specs.Refusals.{NoCase, accepted}
-use Rattle.packet.proofs.Judged.{meets-none}
+use Rattle.packet.proofs.Judged.{accepts, meets-none}
 use Rattle.reader.proofs.Passed.{payload-length}
 use Rattle.record.specs.Record.{seatOf}
 use Rattle.hearing.specs.Hearing.{messageIn, packetRefusals, packetSaid, hearing, isSent, audioIn}
@@ -41,3 +41,8 @@ module _ (b : Bench) (n : ℕ) (p : List ℕ) (h : Hearing) (e : packetSaid b n 
   pub audio-sent : audioIn (packetSaid b n p) p ≡ cond (isSent b n (messageIn p)) (payload p) []
   unfolding audioIn hearing
   audio-sent = simp (e, ← passed .1) (by-air (isSent b n (messageIn p)))
+
+-- so of every packet that no case refuses
+pub sound-is : (b : Bench) (n : ℕ) (p : List ℕ) → NoCase (packetRefusals (b .setup) n (seatOf (b .seats) n) p)
+    → audioIn (packetSaid b n p) p ≡ cond (isSent b n (messageIn p)) (payload p) []
+sound-is b n p h = audio-sent b n p (hearing b n p) (unfold packetSaid in accepts (hearing b n p) (packetRefusals (b .setup) n (seatOf (b .seats) n) p) h)

@@ -1,10 +1,10 @@
 -- For proofs alone: what the scan does with one byte after another. (Its private functions promise these; proofs/Meaning.antt
 -- shows that it finds `itemsRead`.)
-use Prim.Native.Nat.{ℕ}
-use mathlib.Core.Bool.{Bool, true, false, cond, not, _&&_}
+use Prim.Native.Nat.{ℕ, zero, suc}
+use mathlib.Core.Bool.{Bool, true, false, cond, not, _&&_, _||_}
 use mathlib.Core.List.{List, foldl}
 use lib.Dec.{eqb}
-use Rattle.packet.specs.Items.{itemType, itemLength, sqiType, climaxType, sideType, sqiQuality, sqiMethod, sqiAllowed, climaxDelay, climaxAllowed, sideAllowed, sideOf}
+use Rattle.packet.specs.Items.{itemType, itemLength, sqiType, climaxType, ddcType, sideType, sqiQuality, sqiMethod, sqiAllowed, climaxDelay, climaxAllowed, sideAllowed, sideOf}
 use Rattle.packet.specs.declared.message.Direction.{Direction}
 use Rattle.packet.specs.declared.message.Direction.the-variants.{Tx, Rx}
 use Rattle.packet.specs.declared.message.SqiItem.{SqiItem}
@@ -15,7 +15,7 @@ use Rattle.packet.specs.declared.message.SideItem.{SideItem}
 use Rattle.packet.specs.declared.message.SideItem.the-variants as side
 use Rattle.packet.specs.declared.message.Items.{Items}
 use Rattle.items.specs.declared.scan.Mode.{Mode}
-use Rattle.items.specs.declared.scan.Mode.the-variants.{Tail, First, Next, Value, Broken}
+use Rattle.items.specs.declared.scan.Mode.the-variants.{Tail, First, Next, Value, Skip, Broken}
 use Rattle.items.specs.declared.scan.Scan.{Scan}
 use Rattle.items.specs.declared.scan.ItemsRead.{ItemsRead}
 use Rattle.items.specs.declared.scan.ItemsRead.the-variants as read
@@ -36,8 +36,8 @@ sideFree side.Absent = true
 sideFree side.Main = false
 sideFree side.Standby = false
 
-abbrev pub scanAt : Mode → Items → Scan
-scanAt m k = record { mode = m; items = k }
+abbrev pub scanAt : Mode → (ddc : Bool) → Items → Scan
+scanAt m g k = record { mode = m; ddc = g; items = k }
 
 abbrev pub withSqi : Items → ℕ → Items
 withSqi k b = record { sqi = sqi.Is (sqiQuality b) (sqiMethod b); climax = k .climax; side = k .side }
@@ -48,39 +48,56 @@ withClimax k b = record { sqi = k .sqi; climax = climax.Is (climaxDelay b); side
 abbrev pub withSide : Items → ℕ → Items
 withSide k b = record { sqi = k .sqi; climax = k .climax; side = sideOf b }
 
-unfoldable pub takeSqi : Direction → Items → ℕ → Scan
-takeSqi d k b = cond (sqiFree d (k .sqi) && sqiAllowed (sqiQuality b) (sqiMethod b)) (scanAt Next (withSqi k b)) (scanAt Broken k)
+unfoldable pub takeSqi : Direction → Items → ℕ → ItemsRead
+takeSqi d k b = cond (sqiFree d (k .sqi) && sqiAllowed (sqiQuality b) (sqiMethod b)) (read.Items (withSqi k b)) read.Broken
 
-unfoldable pub takeClimax : Direction → Items → ℕ → Scan
-takeClimax d k b = cond (climaxFree d (k .climax) && climaxAllowed b) (scanAt Next (withClimax k b)) (scanAt Broken k)
+unfoldable pub takeClimax : Direction → Items → ℕ → ItemsRead
+takeClimax d k b = cond (climaxFree d (k .climax) && climaxAllowed b) (read.Items (withClimax k b)) read.Broken
 
-unfoldable pub takeSide : Items → ℕ → Scan
-takeSide k b = cond (sideFree (k .side) && sideAllowed b) (scanAt Next (withSide k b)) (scanAt Broken k)
+unfoldable pub takeSide : Items → ℕ → ItemsRead
+takeSide k b = cond (sideFree (k .side) && sideAllowed b) (read.Items (withSide k b)) read.Broken
 
--- an item, once its value is there
-unfoldable pub takeItem : Direction → Items → (head value : ℕ) → Scan
+-- an item that is kept, once its value is there
+unfoldable pub takeItem : Direction → Items → (head value : ℕ) → ItemsRead
 takeItem d k head value =
-    cond (not (eqb (itemLength head) 1)) (scanAt Broken k)
+    cond (not (eqb (itemLength head) 1)) read.Broken
     (cond (eqb (itemType head) sqiType) (takeSqi d k value)
     (cond (eqb (itemType head) climaxType) (takeClimax d k value)
     (cond (eqb (itemType head) sideType) (takeSide k value)
-    (scanAt Broken k))))
+    read.Broken)))
+
+abbrev pub behindValue : (ddc : Bool) → Items → ItemsRead → Scan
+behindValue g k (read.Items more) = scanAt Next g more
+behindValue g k read.Broken = scanAt Broken g k
 
 abbrev pub inZeros : ℕ → Mode
 inZeros b = cond (eqb b 0) Tail Broken
 
-abbrev pub behindItem : ℕ → Mode
-behindItem b = cond (eqb b 0) Tail (Value b)
+-- so many bytes in front of the next item
+abbrev pub past : ℕ → Mode
+past zero = Next
+past (suc n) = Skip n
 
-abbrev pub stepIn : Direction → Mode → Items → ℕ → Scan
-stepIn d Tail k b = scanAt (inZeros b) k
-stepIn d First k b = scanAt (Value b) k
-stepIn d Next k b = scanAt (behindItem b) k
-stepIn d (Value head) k b = takeItem d k head b
-stepIn d Broken k b = scanAt Broken k
+abbrev pub begun : (ddc : Bool) → ℕ → Mode
+begun g b = cond (eqb (itemType b) ddcType) (cond g Broken (past (itemLength b))) (Value b)
+
+abbrev pub behindItem : (ddc : Bool) → ℕ → Mode
+behindItem g b = cond (eqb b 0) Tail (begun g b)
+
+-- a type 4 item was met
+abbrev pub met : (ddc : Bool) → ℕ → Bool
+met g b = eqb (itemType b) ddcType || g
+
+abbrev pub stepIn : Direction → Mode → (ddc : Bool) → Items → ℕ → Scan
+stepIn d Tail g k b = scanAt (inZeros b) g k
+stepIn d First g k b = scanAt (begun g b) (met g b) k
+stepIn d Next g k b = scanAt (behindItem g b) (met g b) k
+stepIn d (Value head) g k b = behindValue g k (takeItem d k head b)
+stepIn d (Skip n) g k b = scanAt (past n) g k
+stepIn d Broken g k b = scanAt Broken g k
 
 abbrev pub stepOf : Direction → Scan → ℕ → Scan
-stepOf d s b = stepIn d (s .mode) (s .items) b
+stepOf d s b = stepIn d (s .mode) (s .ddc) (s .items) b
 
 unfoldable pub scanOf : Direction → Scan → List ℕ → Scan
 scanOf d s bytes = foldl (stepOf d) s bytes
@@ -96,6 +113,7 @@ mayEnd Tail = true
 mayEnd First = false
 mayEnd Next = true
 mayEnd (Value head) = false
+mayEnd (Skip n) = false
 mayEnd Broken = false
 
 abbrev pub endOf : Scan → ItemsRead

@@ -2,7 +2,7 @@
 // specs/ItemsIn.antt has the meaning, specs/Scan.antt what one byte does; proofs/Meaning.antt shows that they agree.
 ghost use mathlib.Core.Path.{_≡_};
 ghost use Rattle.packet.specs.Items.{sideOf};
-ghost use Rattle.items.specs.Scan.{sqiFree, climaxFree, sideFree, scanAt, takeSqi, takeClimax, takeSide, takeItem, inZeros, behindItem, stepOf, scanOf, startIn, mayEnd, endOf};
+ghost use Rattle.items.specs.Scan.{sqiFree, climaxFree, sideFree, scanAt, takeSqi, takeClimax, takeSide, takeItem, behindValue, inZeros, past, begun, behindItem, stepOf, scanOf, startIn, mayEnd, endOf};
 ghost use Rattle.items.specs.ItemsIn.{itemsRead};
 use packet::ClimaxItem;
 use packet::Direction;
@@ -11,22 +11,30 @@ use packet::SideItem;
 use packet::SqiItem;
 use packet::sqi_allowed;
 
-// Where the scan stands: in the zeros at the end, before the first item, before a further one, between an item's first
-// byte, which it holds, and its value, or past a broken rule.
+// Where the scan stands.
 pub enum Mode {
+    // in the zeros at the end
     Tail,
+    // before the first item
     First,
+    // before a further one
     Next,
+    // between an item's first byte, which it holds, and its value
     Value(u8),
+    // in a value that is stepped over, with so many bytes of it behind the next one
+    Skip(u8),
+    // past a broken rule
     Broken,
 }
 
+// `ddc`: a type 4 item was met.
 pub struct Scan {
     pub mode: Mode,
+    pub ddc: bool,
     pub items: Items,
 }
 
-// The items of a whole run of bytes.
+// The items of the bytes so far, or that they break a rule.
 pub enum ItemsRead {
     Items(Items),
     Broken,
@@ -72,13 +80,13 @@ fn side_free(i: SideItem) -> bool
     }
 }
 
-fn at(mode: Mode, items: Items) -> Scan
-    ensures { λ r. ⌜ r ≡ scanAt mode items ⌝ }
+fn at(mode: Mode, ddc: bool, items: Items) -> Scan
+    ensures { λ r. ⌜ r ≡ scanAt mode ddc items ⌝ }
 {
-    Scan { mode, items }
+    Scan { mode, ddc, items }
 }
 
-fn take_sqi(d: Direction, items: Items, b: u8) -> Scan
+fn take_sqi(d: Direction, items: Items, b: u8) -> ItemsRead
     ensures { λ r. ⌜ r ≡ takeSqi d items b ⌝ }
 {
     let before = items.sqi;
@@ -89,13 +97,13 @@ fn take_sqi(d: Direction, items: Items, b: u8) -> Scan
     let fits = sqi_free(d, before) & sqi_allowed(quality, method);
     if fits {
         let sqi = SqiItem::Is { quality, method };
-        at(Mode::Next, Items { sqi, climax, side })
+        ItemsRead::Items(Items { sqi, climax, side })
     } else {
-        at(Mode::Broken, items)
+        ItemsRead::Broken
     }
 }
 
-fn take_climax(d: Direction, items: Items, b: u8) -> Scan
+fn take_climax(d: Direction, items: Items, b: u8) -> ItemsRead
     ensures { λ r. ⌜ r ≡ takeClimax d items b ⌝ }
 {
     let sqi = items.sqi;
@@ -104,13 +112,13 @@ fn take_climax(d: Direction, items: Items, b: u8) -> Scan
     let fits = climax_free(d, before) & (b / 128 % 2 == 1);
     if fits {
         let climax = ClimaxItem::Is(b % 128);
-        at(Mode::Next, Items { sqi, climax, side })
+        ItemsRead::Items(Items { sqi, climax, side })
     } else {
-        at(Mode::Broken, items)
+        ItemsRead::Broken
     }
 }
 
-fn take_side(items: Items, b: u8) -> Scan
+fn take_side(items: Items, b: u8) -> ItemsRead
     ensures { λ r. ⌜ r ≡ takeSide items b ⌝ }
 {
     let sqi = items.sqi;
@@ -119,9 +127,9 @@ fn take_side(items: Items, b: u8) -> Scan
     let fits = side_free(before) & (b % 128 == 0);
     if fits {
         let side = side_of(b);
-        at(Mode::Next, Items { sqi, climax, side })
+        ItemsRead::Items(Items { sqi, climax, side })
     } else {
-        at(Mode::Broken, items)
+        ItemsRead::Broken
     }
 }
 
@@ -136,13 +144,13 @@ fn side_of(b: u8) -> SideItem
     }
 }
 
-// An item, by its first byte (type in the high half, length 1 in the low half) and its value.
-fn take(d: Direction, items: Items, head: u8, b: u8) -> Scan
+// An item that is kept, by its first byte (type in the high half, length 1 in the low half) and its value.
+fn take(d: Direction, items: Items, head: u8, b: u8) -> ItemsRead
     ensures { λ r. ⌜ r ≡ takeItem d items head b ⌝ }
 {
     let item_length = head % 16;
     if item_length != 1 {
-        return at(Mode::Broken, items);
+        return ItemsRead::Broken;
     }
     let kind = head / 16 % 16;
     if kind == 1 {
@@ -154,7 +162,17 @@ fn take(d: Direction, items: Items, head: u8, b: u8) -> Scan
     if kind == 5 {
         return take_side(items, b);
     }
-    at(Mode::Broken, items)
+    ItemsRead::Broken
+}
+
+// Behind its value an item is kept, or a rule was broken.
+fn behind_value(ddc: bool, items: Items, read: ItemsRead) -> Scan
+    ensures { λ r. ⌜ r ≡ behindValue ddc items read ⌝ }
+{
+    match read {
+        ItemsRead::Items(more) => at(Mode::Next, ddc, more),
+        ItemsRead::Broken => at(Mode::Broken, ddc, items),
+    }
 }
 
 // Behind the ending zero byte, and under X = 0, every byte is zero.
@@ -164,11 +182,36 @@ fn in_zeros(b: u8) -> Mode
     if b == 0 { Mode::Tail } else { Mode::Broken }
 }
 
-// Behind an item a zero byte ends the items, and any other begins one.
-fn behind_item(b: u8) -> Mode
-    ensures { λ r. ⌜ r ≡ behindItem b ⌝ }
+// So many bytes in front of the next item.
+fn past(n: u8) -> Mode
+    ensures { λ r. ⌜ r ≡ past n ⌝ }
 {
-    if b == 0 { Mode::Tail } else { Mode::Value(b) }
+    if n == 0 {
+        Mode::Next
+    } else {
+        Mode::Skip(n - 1)
+    }
+}
+
+// An item's first byte. Of type 4 there is one, of any length, and its value is stepped over (02, request 1).
+fn begun(ddc: bool, b: u8) -> Mode
+    ensures { λ r. ⌜ r ≡ begun ddc b ⌝ }
+{
+    let kind = b / 16 % 16;
+    if kind != 4 {
+        return Mode::Value(b);
+    }
+    if ddc {
+        return Mode::Broken;
+    }
+    past(b % 16)
+}
+
+// Behind an item a zero byte ends the items, and any other begins one.
+fn behind_item(ddc: bool, b: u8) -> Mode
+    ensures { λ r. ⌜ r ≡ behindItem ddc b ⌝ }
+{
+    if b == 0 { Mode::Tail } else { begun(ddc, b) }
 }
 
 // One byte further.
@@ -176,13 +219,16 @@ fn step(d: Direction, s: Scan, b: u8) -> Scan
     ensures { λ r. ⌜ r ≡ stepOf d s b ⌝ }
 {
     let mode = s.mode;
+    let ddc = s.ddc;
     let items = s.items;
+    let met = (b / 16 % 16 == 4) | ddc;
     match mode {
-        Mode::Tail => at(in_zeros(b), items),
-        Mode::First => at(Mode::Value(b), items),
-        Mode::Next => at(behind_item(b), items),
-        Mode::Value(head) => take(d, items, head, b),
-        Mode::Broken => at(Mode::Broken, items),
+        Mode::Tail => at(in_zeros(b), ddc, items),
+        Mode::First => at(begun(ddc, b), met, items),
+        Mode::Next => at(behind_item(ddc, b), met, items),
+        Mode::Value(head) => behind_value(ddc, items, take(d, items, head, b)),
+        Mode::Skip(n) => at(past(n), ddc, items),
+        Mode::Broken => at(Mode::Broken, ddc, items),
     }
 }
 
@@ -215,6 +261,7 @@ fn may_end(mode: Mode) -> bool
         Mode::First => false,
         Mode::Next => true,
         Mode::Value(_) => false,
+        Mode::Skip(_) => false,
         Mode::Broken => false,
     }
 }
@@ -241,6 +288,6 @@ pub fn items_in(d: Direction, x: u16, s: &[u8]) -> ItemsRead
         climax: ClimaxItem::Absent,
         side: SideItem::Absent,
     };
-    let first = at(start(x), none);
+    let first = at(start(x), false, none);
     end(scanned(d, first, s))
 }

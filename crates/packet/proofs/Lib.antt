@@ -2,3 +2,4 @@ pub mod Judged
 pub mod TellApart
 pub mod Levels
 pub mod QualityLaws
+pub mod ItemLaws

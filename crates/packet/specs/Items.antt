@@ -1,9 +1,10 @@
--- 01, The packet: "Items follow." What the bytes after the first two may hold.
-use Prim.Native.Nat.{ℕ}
+-- 01, The packet: "Items follow." What the bytes after the first two may hold, with the type 4 items of 02, request 1.
+use Prim.Native.Nat.{ℕ, zero, suc}
 use mathlib.Core.Bool.{Bool, true, false, cond, not, _&&_, _||_}
 use mathlib.Core.List.{List, [], _∷_}
 use lib.Dec.{leb, eqb}
-use Rattle.base.specs.Bytes.{bits}
+use lib.ListN.{length, take}
+use Rattle.base.specs.Bytes.{bits, byteAt}
 use Rattle.packet.specs.declared.message.Direction.{Direction}
 use Rattle.packet.specs.declared.message.Direction.the-variants.{Tx, Rx}
 use Rattle.packet.specs.declared.message.SqiItem.{SqiItem}
@@ -14,9 +15,10 @@ use Rattle.packet.specs.declared.message.SideItem.{SideItem}
 use Rattle.packet.specs.declared.message.SideItem.the-variants as side
 use Rattle.packet.specs.declared.message.Items.{Items}
 
+-- A type, and as many value bytes as the length beside it says.
 pub record Item : Type 0 where
   pub type : ℕ
-  pub value : ℕ
+  pub value : List ℕ
 
 -- The items found one behind the other, or bytes that are no run of items.
 pub data Found : Type 0 where
@@ -31,20 +33,26 @@ unfoldable pub allZero : List ℕ → Bool
 allZero [] = true
 allZero (b ∷ bs) = eqb b 0 && allZero bs
 
--- "An item is one byte (type in the high half, length 1 in the low half) and one value byte."
+-- "An item is one byte (type in the high half, length 1 in the low half) and one value byte." Of type 4, since 02:
+-- "any length 0 to 15".
 abbrev pub itemType : ℕ → ℕ
 itemType head = bits 8 0 4 head
 
 abbrev pub itemLength : ℕ → ℕ
 itemLength head = bits 8 4 4 head
 
+-- The items, where so many bytes of a value come first. 11, since 02: "an item of any type whose value runs past the words".
 -- ".. a zero byte where an item would begin ends them, and all bytes after it are zero."
-unfoldable pub itemsIn : List ℕ → Found
-itemsIn [] = found []
-itemsIn (head ∷ []) = cond (eqb head 0) (found []) broken
-itemsIn (head ∷ value ∷ rest) =
-    cond (eqb head 0) (cond (allZero (value ∷ rest)) (found []) broken)
-    (cond (eqb (itemLength head) 1) (behind (record { type = itemType head; value = value }) (itemsIn rest)) broken)
+unfoldable pub itemsBehind : (value : ℕ) → List ℕ → Found
+itemsBehind (suc n) [] = broken
+itemsBehind (suc n) (b ∷ rest) = itemsBehind n rest
+itemsBehind zero [] = found []
+itemsBehind zero (head ∷ rest) =
+    cond (eqb head 0) (cond (allZero rest) (found []) broken)
+    (behind (record { type = itemType head; value = take (itemLength head) rest }) (itemsBehind (itemLength head) rest))
+
+abbrev pub itemsIn : List ℕ → Found
+itemsIn bytes = itemsBehind 0 bytes
 
 -- The types of the table.
 abbrev pub sqiType : ℕ
@@ -53,8 +61,18 @@ sqiType = 1
 abbrev pub climaxType : ℕ
 climaxType = 2
 
+abbrev pub ddcType : ℕ
+ddcType = 4
+
 abbrev pub sideType : ℕ
 sideType = 5
+
+-- The value of an item of length 1.
+abbrev pub oneByte : Item → Bool
+oneByte i = eqb (length (i .value)) 1
+
+abbrev pub valueByte : Item → ℕ
+valueByte i = byteAt (i .value) 0
 
 -- "1 SQI | RX | quality in the high 5 bits; method in the low 3: 0 RSSI, 1 AGC, 2 C/N, 3 PSD.
 -- With RSSI quality is 0 to 15, else 0 to 31"
@@ -91,12 +109,14 @@ inTx Rx = false
 abbrev pub inRx : Direction → Bool
 inRx d = not (inTx d)
 
--- The table of items. "Every other type is refused, type 4 (DDC) too, as 000 gives no layout for it."
+-- The table of items. "Every other type is refused"; type 4, which 01 refused, since 02: "of any length 0 to 15 is stepped over ..
+-- in TX and RX alike".
 unfoldable pub itemAllowed : Direction → Item → Bool
 itemAllowed d i =
-    (eqb (i .type) sqiType && inRx d && sqiAllowed (sqiQuality (i .value)) (sqiMethod (i .value)))
-    || (eqb (i .type) climaxType && inTx d && climaxAllowed (i .value))
-    || (eqb (i .type) sideType && sideAllowed (i .value))
+    (eqb (i .type) sqiType && oneByte i && inRx d && sqiAllowed (sqiQuality (valueByte i)) (sqiMethod (valueByte i)))
+    || (eqb (i .type) climaxType && oneByte i && inTx d && climaxAllowed (valueByte i))
+    || (eqb (i .type) sideType && oneByte i && sideAllowed (valueByte i))
+    || eqb (i .type) ddcType
 
 unfoldable pub allAllowed : Direction → List Item → Bool
 allAllowed d [] = true
@@ -131,18 +151,18 @@ listed broken = []
 unfoldable pub itemsOf : (x : ℕ) → List ℕ → List Item
 itemsOf x bytes = cond (eqb x 0) [] (listed (itemsIn bytes))
 
--- What a message keeps of them.
+-- What a message keeps of them. Of type 4, 02: "its value isn't kept".
 unfoldable pub sqiAmong : List Item → SqiItem
 sqiAmong [] = sqi.Absent
-sqiAmong (i ∷ is) = cond (eqb (i .type) sqiType) (sqi.Is (sqiQuality (i .value)) (sqiMethod (i .value))) (sqiAmong is)
+sqiAmong (i ∷ is) = cond (eqb (i .type) sqiType) (sqi.Is (sqiQuality (valueByte i)) (sqiMethod (valueByte i))) (sqiAmong is)
 
 unfoldable pub climaxAmong : List Item → ClimaxItem
 climaxAmong [] = climax.Absent
-climaxAmong (i ∷ is) = cond (eqb (i .type) climaxType) (climax.Is (climaxDelay (i .value))) (climaxAmong is)
+climaxAmong (i ∷ is) = cond (eqb (i .type) climaxType) (climax.Is (climaxDelay (valueByte i))) (climaxAmong is)
 
 unfoldable pub sideAmong : List Item → SideItem
 sideAmong [] = side.Absent
-sideAmong (i ∷ is) = cond (eqb (i .type) sideType) (sideOf (i .value)) (sideAmong is)
+sideAmong (i ∷ is) = cond (eqb (i .type) sideType) (sideOf (valueByte i)) (sideAmong is)
 
 unfoldable pub kept : List Item → Items
 kept is = record { sqi = sqiAmong is; climax = climaxAmong is; side = sideAmong is }

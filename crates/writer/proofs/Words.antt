@@ -2,7 +2,7 @@
 use Prim.Native.Nat.{ℕ, suc, _+_, _*_, _-_, _/_, _%_, _≤_}
 use mathlib.Core.Path.{_≡_, refl, ap}
 use mathlib.Core.Bool.{not}
-use mathlib.Core.List.{List, [], _∷_}
+use mathlib.Core.List.{List, [], _∷_, _++_}
 use native.Mathlib.Omega.{arith}
 use borrow.Author.Tests.{ne-eqb}
 use lib.Dec.{eqb}
@@ -63,16 +63,30 @@ module _ (m : Message) where
   pub words-are : eightBytes (fieldOf m is) (m .items .sqi) (m .items .climax) (m .items .side) ≡ padded 8 (wordsOf m is)
   words-are = by-items (m .items .sqi) (m .items .climax) (m .items .side) refl
 
-pub item-bytes-length : (is : List Item) → length (itemBytes is) ≡ 2 * length is
-unfolding itemBytes
-item-bytes-length [] = refl
-item-bytes-length (i ∷ is) = let h : length (itemBytes is) ≡ 2 * length is = item-bytes-length is in omega arith
-
 pub words-length : (m : Message) (is : List Item) → length (wordsOf m is) ≡ 4 * fewestWords is
 unfolding wordsOf
-words-length m is = simp (length-append, length-replicate, item-bytes-length) (omega arith)
+words-length m is = simp (length-append, length-replicate) (omega arith)
 
--- there are three types
+-- the writers' items are of two bytes,
+pub rising-length : (k : Items) → length (itemBytes (risingItems k)) ≡ 2 * length (risingItems k)
+unfolding risingItems itemBytes
+rising-length k = by-items (k .sqi) (k .climax) (k .side)
+  where
+    by-side : (d : SideItem) → length (itemBytes (sideListed d)) ≡ 2 * length (sideListed d)
+    by-side side.Absent = refl
+    by-side side.Main = refl
+    by-side side.Standby = refl
+
+    by-climax : (c : ClimaxItem) (d : SideItem) → length (itemBytes (climaxListed c ++ sideListed d)) ≡ 2 * length (climaxListed c ++ sideListed d)
+    by-climax climax.Absent d = by-side d
+    by-climax (climax.Is v) d = omega (arith, by-side d)
+
+    by-items : (s : SqiItem) (c : ClimaxItem) (d : SideItem)
+        → length (itemBytes (sqiListed s ++ climaxListed c ++ sideListed d)) ≡ 2 * length (sqiListed s ++ climaxListed c ++ sideListed d)
+    by-items sqi.Absent c d = by-climax c d
+    by-items (sqi.Is q t) c d = omega (arith, by-climax c d)
+
+-- and there are three types
 pub at-most-three : (k : Items) → length (risingItems k) ≤ 3
 unfolding risingItems
 at-most-three k = simp length-append (omega (arith, of-sqi (k .sqi), of-climax (k .climax), of-side (k .side)))
@@ -90,8 +104,8 @@ at-most-three k = simp length-append (omega (arith, of-sqi (k .sqi), of-climax (
     of-side side.Main = omega arith
     of-side side.Standby = omega arith
 
-two-words : (k : Items) → 4 * fewestWords (risingItems k) ≤ 8
-two-words k = omega (arith, at-most-three k)
+pub few-words : (k : Items) → (1 ≤ fewestWords (risingItems k)) × (fewestWords (risingItems k) ≤ 2)
+few-words k = omega (arith, rising-length k, at-most-three k)
 
 -- bytes with zeros behind them, without the zeros
 unpadded : (P : List ℕ) (n : ℕ) → length P ≤ n → take (length P) (padded n P) ≡ P
@@ -102,4 +116,4 @@ pub words-cut : (m : Message) → partOf 0 (4 * fewestWords (risingItems (m .ite
 words-cut m =
     let words : List ℕ = wordsOf m (risingItems (m .items)) in
     let long : 4 * fewestWords (risingItems (m .items)) - 0 ≡ length words = omega (arith, words-length m (risingItems (m .items))) in
-    rw long (unpadded words 8 (omega (arith, two-words (m .items))))
+    rw long (unpadded words 8 (omega (arith, few-words (m .items))))

@@ -55,28 +55,28 @@ fromRx m =
 -- The items of a message, "by rising type".
 abbrev pub sqiListed : SqiItem → List Item
 sqiListed sqi.Absent = []
-sqiListed (sqi.Is quality method) = record { type = sqiType; value = placed 8 0 5 quality + placed 8 5 3 method } ∷ []
+sqiListed (sqi.Is quality method) = record { type = sqiType; value = bytes8 (placed 8 0 5 quality + placed 8 5 3 method) } ∷ []
 
 abbrev pub climaxListed : ClimaxItem → List Item
 climaxListed climax.Absent = []
-climaxListed (climax.Is delay) = record { type = climaxType; value = placed 8 0 1 1 + placed 8 1 7 delay } ∷ []
+climaxListed (climax.Is delay) = record { type = climaxType; value = bytes8 (placed 8 0 1 1 + placed 8 1 7 delay) } ∷ []
 
 abbrev pub sideListed : SideItem → List Item
 sideListed side.Absent = []
-sideListed side.Main = record { type = sideType; value = placed 8 0 1 0 } ∷ []
-sideListed side.Standby = record { type = sideType; value = placed 8 0 1 1 } ∷ []
+sideListed side.Main = record { type = sideType; value = bytes8 (placed 8 0 1 0) } ∷ []
+sideListed side.Standby = record { type = sideType; value = bytes8 (placed 8 0 1 1) } ∷ []
 
 unfoldable pub risingItems : Items → List Item
 risingItems k = sqiListed (k .sqi) ++ climaxListed (k .climax) ++ sideListed (k .side)
 
--- "An item is one byte (type in the high half, length 1 in the low half) and one value byte."
+-- "An item is one byte (type in the high half, length .. in the low half)" and its value.
 unfoldable pub itemBytes : List Item → List ℕ
 itemBytes [] = []
-itemBytes (i ∷ is) = bytes8 (placed 8 0 4 (i .type) + placed 8 4 4 1) ++ bytes8 (i .value) ++ itemBytes is
+itemBytes (i ∷ is) = bytes8 (placed 8 0 4 (i .type) + placed 8 4 4 (length (i .value))) ++ i .value ++ itemBytes is
 
--- ".. the fewest words that hold them": two bytes and two for each item, in words of four.
+-- ".. the fewest words that hold them": two bytes and the items, in words of four.
 abbrev pub fewestWords : List Item → ℕ
-fewestWords is = (2 + 2 * length is + 3) / 4
+fewestWords is = (2 + length (itemBytes is) + 3) / 4
 
 -- The first two bytes of the words, bit by bit.
 abbrev pub fieldOf : Message → List Item → ℕ
@@ -86,7 +86,7 @@ fieldOf m is =
 
 -- The words: the field, the items, zeros.
 unfoldable pub wordsOf : Message → List Item → List ℕ
-wordsOf m is = bytes16 (fieldOf m is) ++ itemBytes is ++ replicate (4 * fewestWords is - (2 + 2 * length is)) 0
+wordsOf m is = bytes16 (fieldOf m is) ++ itemBytes is ++ replicate (4 * fewestWords is - (2 + length (itemBytes is))) 0
 
 -- "The report is type 8 if audio is given, else 123": so with every packet that is written.
 abbrev pub kindFor : (bytes : ℕ) → ℕ

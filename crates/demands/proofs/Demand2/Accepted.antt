@@ -23,7 +23,7 @@ use Rattle.demands.specs.RoundTrip.{Narrow}
 use Rattle.reader.proofs.Passed.{Passed, accepted-passed, field-passed}
 use Rattle.demands.proofs.Demand2.Inversion.{after-bytes}
 use Rattle.demands.proofs.Demand2.AllowedItems.{AllStand, here-stand, sqi-writable, climax-writable, no-sqi-in-tx, no-climax-in-rx}
-use Rattle.demands.proofs.Demand2.RoundTrip.{Says}
+use Rattle.demands.proofs.Demand2.Laid.{Says}
 
 -- ---- the kind and the payload
 

@@ -60,10 +60,10 @@ both-ways = record {
       let there = front (a .0) (fromRx (a .1 .0)) (now (a .1 .1 .0)) (now (a .1 .1 .1 .0)) (now (e .1 .1 .1 .0)) w long (h .0) (h .1) is in
       let back = round-trip-rx (a .0) (a .1 .0) (now (a .1 .1 .0)) narrow (there .0) in
       (reads-rx _ _ _ (ap (readRx (a .0)) (there .1) ∙ back .0), hands-out _ _ (ap payload (there .1) ∙ back .1));
-  read-tx = λ k a r e h m is small plain buffer room.
-      let again = rewrite-tx (a .0) (now (a .1 .0)) m small (sym h ∙ ap txAnswer is) .stands plain buffer room in
+  read-tx = λ k a r e h m is small plain none buffer room.
+      let again = rewrite-tx (a .0) (now (a .1 .0)) m small (sym h ∙ ap txAnswer is) .stands plain none buffer room in
       writes-tx _ _ _ _ _ _ (again .0) (again .1);
-  read-rx = λ k a r e h m is small plain buffer room.
-      let again = rewrite-rx (a .0) (now (a .1 .0)) m small (sym h ∙ ap rxAnswer is) .stands plain buffer room in
+  read-rx = λ k a r e h m is small plain none buffer room.
+      let again = rewrite-rx (a .0) (now (a .1 .0)) m small (sym h ∙ ap rxAnswer is) .stands plain none buffer room in
       writes-rx _ _ _ _ _ _ (again .0) (again .1);
 }

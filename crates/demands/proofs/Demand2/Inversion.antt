@@ -1,12 +1,12 @@
 -- An accepted packet, taken apart and written out again.
-use Prim.Native.Nat.{ℕ, zero, suc, _+_, _*_, _-_, _/_, _%_, _<_}
+use Prim.Native.Nat.{ℕ, zero, suc, _+_, _*_, _-_, _/_, _%_, _<_, _≤_}
 use mathlib.Core.Path.{_≡_, refl, ap, sym, _∙_}
 use mathlib.Core.Bool.{Bool, true, false, cond, _&&_}
 use mathlib.Core.List.{List, [], _∷_, _++_, append-assoc}
 use native.Mathlib.Omega.{arith}
 use native.Mathlib.Nat.{div-div-eq-div-mul, div-add-mod', div-one}
 use lib.Dec.{eqb}
-use lib.ListN.{length, take, drop, replicate, length-take, length-drop}
+use lib.ListN.{length, take, drop, replicate, length-append, length-replicate, length-take, length-drop}
 use lib.Seq.{getD-drop}
 use borrow.Author.Tests.{eqb-true, eqb-false}
 use Rattle.base.specs.Bytes.{byteAt, bytes8, bytes16, bytes32, bits, placed, bit, isSet, Bytes}
@@ -72,7 +72,7 @@ none-reserved : (d : Direction) (f : ℕ) → FieldPassed d f → f / 2 % 4 ≡ 
 none-reserved Tx f h = omega (arith, h .unreserved)
 none-reserved Rx f h = h .unreserved
 
-take-bytes : (n : ℕ) (l : List ℕ) → Bytes l → Bytes (take n l)
+pub take-bytes : (n : ℕ) (l : List ℕ) → Bytes l → Bytes (take n l)
 take-bytes zero l h i = omega arith
 take-bytes (suc n) [] h i = omega arith
 take-bytes (suc n) (b ∷ l) h zero = h 0
@@ -92,7 +92,7 @@ module _ (d : Direction) (f : ℕ) (bs : List ℕ) (small : Bytes bs) where
   not-broken e = let z : _≡_ {A = ℕ} 0 1 = cc in omega arith
 
   run-back : (g : Found) → itemsIn bs ≡ g → runAllowed d g ≡ true
-      → (bs ≡ itemBytes (listed g) ++ replicate (length bs - 2 * length (listed g)) 0) × (someItem (listed g) ≡ true)
+      → (bs ≡ itemBytes (listed g) ++ replicate (length bs - length (itemBytes (listed g))) 0) × (someItem (listed g) ≡ true)
   unfolding runAllowed
   run-back (found js) e h = (items-back bs js small e, and-left (someItem js) (allAllowed d js) (and-left (someItem js && allAllowed d js) (noTypeTwice js) h))
   run-back broken e h = absurd (not-broken h)
@@ -101,16 +101,16 @@ module _ (d : Direction) (f : ℕ) (bs : List ℕ) (small : Bytes bs) where
   x-one e = omega (arith, eqb-false (x f) 0 e)
 
   under-x : (t : Bool) → eqb (x f) 0 ≡ t → cond t (allZero bs) (runAllowed d (itemsIn bs)) ≡ true
-      → (bs ≡ itemBytes (cond t [] (listed (itemsIn bs))) ++ replicate (length bs - 2 * length (cond t [] (listed (itemsIn bs)))) 0)
+      → (bs ≡ itemBytes (cond t [] (listed (itemsIn bs))) ++ replicate (length bs - length (itemBytes (cond t [] (listed (itemsIn bs))))) 0)
       × (bit (someItem (cond t [] (listed (itemsIn bs)))) ≡ x f)
   unfolding itemBytes
   under-x true e h =
-      let none : length bs ≡ length bs - 2 * 0 = omega arith in
+      let none : length bs ≡ length bs - 0 = omega arith in
       (zeros-are bs h ∙ ap (λ (n : ℕ). replicate n 0) none, sym (eqb-true (x f) 0 e))
   under-x false e h = (run-back (itemsIn bs) refl h .0, ap bit (run-back (itemsIn bs) refl h .1) ∙ sym (x-one e))
 
   items-under-x : itemsAllowed d (x f) bs ≡ true
-      → (bs ≡ itemBytes is ++ replicate (length bs - 2 * length is) 0) × (bit (someItem is) ≡ x f)
+      → (bs ≡ itemBytes is ++ replicate (length bs - length (itemBytes is)) 0) × (bit (someItem is) ≡ x f)
   unfolding itemsAllowed itemsOf
   items-under-x h = under-x (eqb (x f) 0) refl h
 
@@ -132,9 +132,20 @@ module _ (d : Direction) (ext : ℕ) (p : List ℕ) (small : Bytes p) (h : Passe
   unfolding afterField
   after-bytes = take-bytes (payloadAt p - (wordsAt p + 2)) (drop (wordsAt p + 2) p) (drop-bytes (wordsAt p + 2) p small)
 
-  here : (afterField p ≡ itemBytes (itemsHere p) ++ replicate (length (afterField p) - 2 * length (itemsHere p)) 0) × (bit (someItem (itemsHere p)) ≡ x (field p))
+  here : (afterField p ≡ itemBytes (itemsHere p) ++ replicate (length (afterField p) - length (itemBytes (itemsHere p))) 0) × (bit (someItem (itemsHere p)) ≡ x (field p))
   unfolding itemsHere
   here = items-under-x d (field p) (afterField p) after-bytes (h .items-allowed)
+
+  words-long : length (afterField p) ≡ 4 * wordCount p - 2
+  unfolding afterField
+  words-long = simp (length-take, length-drop) (omega (arith, h .some-word, h .words-end))
+
+  -- the words hold the items
+  pub room-here : 2 + length (itemBytes (itemsHere p)) ≤ 4 * wordCount p
+  room-here =
+      let both : length (afterField p) ≡ length (itemBytes (itemsHere p)) + (length (afterField p) - length (itemBytes (itemsHere p))) =
+      ap length (here .0) ∙ (simp (length-append, length-replicate)) in
+      omega (arith, words-long, h .some-word)
 
   field-back : field p ≡ fieldOf (messageOf p) (itemsHere p)
   unfolding messageOf
@@ -151,13 +162,12 @@ module _ (d : Direction) (ext : ℕ) (p : List ℕ) (small : Bytes p) (h : Passe
   piece n m xs ys e g = cut n m p ∙ ap (λ (l : List ℕ). l ++ drop (n + m) p) e ∙ ap (λ (l : List ℕ). xs ++ l) g
 
   words-back : drop (wordsAt p) p
-      ≡ bytes16 (fieldOf (messageOf p) (itemsHere p)) ++ itemBytes (itemsHere p) ++ replicate (4 * wordCount p - (2 + 2 * length (itemsHere p))) 0 ++ payload p
+      ≡ bytes16 (fieldOf (messageOf p) (itemsHere p)) ++ itemBytes (itemsHere p) ++ replicate (4 * wordCount p - (2 + length (itemBytes (itemsHere p)))) 0 ++ payload p
   unfolding afterField payload
   words-back =
       let is = itemsHere p in
       let room : wordsAt p + 2 + (payloadAt p - (wordsAt p + 2)) ≡ payloadAt p = omega (arith, h .some-word) in
-      let long : length (afterField p) ≡ 4 * wordCount p - 2 = simp (length-take, length-drop) (omega (arith, h .some-word, h .words-end)) in
-      let zeros : length (afterField p) - 2 * length is ≡ 4 * wordCount p - (2 + 2 * length is) = omega arith in
+      let zeros : length (afterField p) - length (itemBytes is) ≡ 4 * wordCount p - (2 + length (itemBytes is)) = omega (arith, words-long) in
       cut (wordsAt p) 2 p
       ∙ ap (λ (l : List ℕ). l ++ drop (wordsAt p + 2) p)
       (number16-back p small (wordsAt p) (omega (arith, h .words-end, h .some-word)) ∙ ap bytes16 field-back)
@@ -167,11 +177,12 @@ module _ (d : Direction) (ext : ℕ) (p : List ℕ) (small : Bytes p) (h : Passe
       ∙ ap (λ (l : List ℕ). l ++ payload p) (here .0 ∙ ap (λ (n : ℕ). itemBytes is ++ replicate n 0) zeros))
       ∙ simp append-assoc
 
-  csrc-count : length (csrcWords p) / 4 ≡ csrcCount p
+  pub csrc-long : length (csrcWords p) ≡ 4 * csrcCount p
   unfolding csrcWords
-  csrc-count =
-      let long : length (csrcWords p) ≡ 4 * csrcCount p = simp (length-take, length-drop) (omega (arith, h .words-begin)) in
-      omega arith
+  csrc-long = simp (length-take, length-drop) (omega (arith, h .words-begin))
+
+  csrc-count : length (csrcWords p) / 4 ≡ csrcCount p
+  csrc-count = omega (arith, csrc-long)
 
   csrc-back : take (4 * csrcCount p) (drop 12 p) ≡ csrcWords p
   unfolding csrcWords
@@ -198,7 +209,7 @@ module _ (d : Direction) (ext : ℕ) (p : List ℕ) (small : Bytes p) (h : Passe
       (ap (λ (n : ℕ). drop n p) e4 ∙ words-back))))))))
       ∙ regroup (bytes8 (placed 8 0 2 2 + placed 8 3 1 1 + placed 8 4 4 (length (csrcWords p) / 4))) (bytes8 (payloadType p)) (bytes16 (sequence p))
       (bytes32 (timestamp p)) (bytes32 (ssrc p)) (csrcWords p) (bytes16 ext) (bytes16 (wordCount p)) (bytes16 (fieldOf (messageOf p) (itemsHere p)))
-      (itemBytes (itemsHere p)) (replicate (4 * wordCount p - (2 + 2 * length (itemsHere p))) 0) (payload p)
+      (itemBytes (itemsHere p)) (replicate (4 * wordCount p - (2 + length (itemBytes (itemsHere p)))) 0) (payload p)
 
 pub inversion : Inversion
 inversion d ext p m small e =

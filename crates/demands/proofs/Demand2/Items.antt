@@ -1,18 +1,19 @@
 -- Bytes that hold items are those items written one behind the other, and zeros.
-use Prim.Native.Nat.{ℕ, suc, _+_, _*_, _-_, _%_, _<_}
-use mathlib.Core.Path.{_≡_, refl, ap, _∙_}
+use Prim.Native.Nat.{ℕ, zero, suc, _+_, _-_, _%_, _<_}
+use mathlib.Core.Path.{_≡_, refl, ap, sym, _∙_, subst}
 use mathlib.Core.Bool.{Bool, true, false, cond}
-use mathlib.Core.List.{List, [], _∷_, _++_}
+use mathlib.Core.List.{List, [], _∷_, _++_, append-assoc}
 use native.Mathlib.Omega.{arith}
 use lib.Dec.{eqb}
-use lib.ListN.{length, replicate}
+use lib.ListN.{length, take, replicate, length-append, length-replicate}
 use borrow.Author.Tests.{eqb-true}
 use Rattle.base.specs.Bytes.{Bytes, placed}
 use Rattle.base.proofs.Truths.{and-left, and-right}
-use Rattle.packet.specs.Items.{Item, Found, found, broken, behind, allZero, itemType, itemLength, itemsIn}
+use Rattle.packet.specs.Items.{Item, Found, found, broken, behind, allZero, itemType, itemLength, itemsBehind, itemsIn}
+use Rattle.packet.proofs.ItemLaws.{not-found, found-same, value-whole}
 use Rattle.writer.specs.Writing.{itemBytes}
 
-pub tail-bytes : (b : ℕ) (bs : List ℕ) → Bytes (b ∷ bs) → Bytes bs
+tail-bytes : (b : ℕ) (bs : List ℕ) → Bytes (b ∷ bs) → Bytes bs
 tail-bytes b bs h i = h (suc i)
 
 -- zeros alone
@@ -24,75 +25,63 @@ zeros-are (b ∷ bs) e =
     let r : bs ≡ replicate (length bs) 0 = zeros-are bs (and-right (eqb b 0) (allZero bs) e) in
     ap (λ (c : ℕ). c ∷ bs) z ∙ ap (λ (l : List ℕ). 0 ∷ l) r
 
--- an item's first byte is its type and length 1
-head-back : (b : ℕ) → b < 256 → itemLength b ≡ 1 → b ≡ (placed 8 0 4 (itemType b) + placed 8 4 4 1) % 256
-head-back b h e = omega arith
+-- an item's first byte is its type and its length
+head-back : (b l : ℕ) → b < 256 → l ≡ itemLength b → b ≡ (placed 8 0 4 (itemType b) + placed 8 4 4 l) % 256
+head-back b l h e = omega arith
 
-value-back : (v : ℕ) → v < 256 → v ≡ v % 256
-value-back v h = omega arith
+-- behind so many bytes of a value: the items, and zeros up to the end
+pub record Back (n : ℕ) (bs : List ℕ) (is : List Item) : Type 0 where
+  pub zeros : ℕ
+  pub are : bs ≡ take n bs ++ (itemBytes is ++ replicate zeros 0)
 
-not-found : (is : List Item) → broken ≡ found is → ⊥
-not-found is e = let z : _≡_ {A = ℕ} 0 1 = cc in omega arith
+module _ (b : ℕ) (bs : List ℕ) (small : b < 256) where
+  abbrev item : Item
+  item = record { type = itemType b; value = take (itemLength b) bs }
 
-found-same : (is js : List Item) → found is ≡ found js → is ≡ js
-found-same is js e = cc
+  -- an item in front of others
+  in-front : (js : List Item) → itemsBehind (itemLength b) bs ≡ found js → Back (itemLength b) bs js → Back 0 (b ∷ bs) (item ∷ js)
+  unfolding itemBytes
+  in-front js e k =
+      record {
+        zeros = k .zeros;
+        are =
+            ap (λ (c : ℕ). c ∷ bs) (head-back b (length (item .value)) small (value-whole (itemLength b) bs js e))
+            ∙ ap (λ (l : List ℕ). (placed 8 0 4 (itemType b) + placed 8 4 4 (length (item .value))) % 256 ∷ l)
+            (k .are ∙ sym (append-assoc (item .value) (itemBytes js) (replicate (k .zeros) 0)));
+      }
+
+  by-found : (f : Found) (is : List Item) → itemsBehind (itemLength b) bs ≡ f → behind item f ≡ found is
+      → ((js : List Item) → itemsBehind (itemLength b) bs ≡ found js → Back (itemLength b) bs js) → Back 0 (b ∷ bs) is
+  by-found (found js) is q e ih = subst (Back 0 (b ∷ bs)) (found-same (item ∷ js) is e) (in-front js q (ih js q))
+  by-found broken is q e ih = absurd (not-found is e)
+
+  -- a zero byte where an item would begin
+  by-end : (t : Bool) → allZero bs ≡ t → (is : List Item) → b ≡ 0 → cond t (found []) broken ≡ found is → Back 0 (b ∷ bs) is
+  unfolding itemBytes
+  by-end true z is e q =
+      subst (Back 0 (b ∷ bs)) (found-same [] is q)
+      (record { zeros = suc (length bs); are = ap (λ (c : ℕ). c ∷ bs) e ∙ ap (λ (l : List ℕ). 0 ∷ l) (zeros-are bs z) })
+  by-end false z is e q = absurd (not-found is q)
+
+behind-back : (bs : List ℕ) (n : ℕ) (is : List Item) → Bytes bs → itemsBehind n bs ≡ found is → Back n bs is
+unfolding itemsBehind itemBytes
+behind-back [] zero is small e = subst (Back 0 []) (found-same [] is e) (record { zeros = 0; are = refl })
+behind-back [] (suc n) is small e = absurd (not-found is e)
+behind-back (b ∷ bs) (suc n) is small e =
+    let k = behind-back bs n is (tail-bytes b bs small) e in
+    record { zeros = k .zeros; are = ap (λ (l : List ℕ). b ∷ l) (k .are) }
+behind-back (b ∷ bs) zero is small e = by-zero (eqb b 0) refl e (λ n js q. behind-back bs n js (tail-bytes b bs small) q)
+  where
+    by-zero : (t : Bool) → eqb b 0 ≡ t → cond t (cond (allZero bs) (found []) broken) (behind (item b bs (small 0)) (itemsBehind (itemLength b) bs)) ≡ found is
+        → ((n : ℕ) (js : List Item) → itemsBehind n bs ≡ found js → Back n bs js) → Back 0 (b ∷ bs) is
+    by-zero true z q ih = by-end b bs (small 0) (allZero bs) refl is (eqb-true b 0 z) q
+    by-zero false z q ih = by-found b bs (small 0) (itemsBehind (itemLength b) bs) is refl q (λ js r. ih (itemLength b) js r)
 
 -- the items, and as many zeros as bytes are left
-abbrev written : List ℕ → List Item → List ℕ
-written bs is = itemBytes is ++ replicate (length bs - 2 * length is) 0
-
-none-used : (n : ℕ) → suc n ≡ suc n - 2 * 0
-none-used n = omega arith
-
--- a zero byte where an item would begin
-by-end : (t : Bool) (bs : List ℕ) (is : List Item) → allZero bs ≡ t → cond t (found []) broken ≡ found is → (b : ℕ) → b ≡ 0 → b ∷ bs ≡ written (b ∷ bs) is
-unfolding itemBytes
-by-end true bs is z e b h =
-    ap (λ (c : ℕ). c ∷ bs) h
-    ∙ ap (λ (l : List ℕ). 0 ∷ l) (zeros-are bs z)
-    ∙ ap (λ (n : ℕ). replicate n 0) (none-used (length bs))
-    ∙ ap (λ (js : List Item). written (b ∷ bs) js) (found-same [] is e)
-by-end false bs is z e b h = absurd (not-found is e)
-
-left-over : (n k : ℕ) → n - 2 * k ≡ suc (suc n) - 2 * suc k
-left-over n k = omega arith
-
--- an item in front of others
-by-item : (b v : ℕ) (rest : List ℕ) (js : List Item) → b < 256 → v < 256 → itemLength b ≡ 1 → rest ≡ written rest js
-    → b ∷ v ∷ rest ≡ written (b ∷ v ∷ rest) (record { type = itemType b; value = v } ∷ js)
-unfolding itemBytes
-by-item b v rest js hb hv one ih =
-    ap (λ (c : ℕ). c ∷ v ∷ rest) (head-back b hb one)
-    ∙ ap (λ (c : ℕ). (placed 8 0 4 (itemType b) + placed 8 4 4 1) % 256 ∷ c ∷ rest) (value-back v hv)
-    ∙ ap (λ (l : List ℕ). (placed 8 0 4 (itemType b) + placed 8 4 4 1) % 256 ∷ v % 256 ∷ l)
-    (ih ∙ ap (λ (n : ℕ). itemBytes js ++ replicate n 0) (left-over (length rest) (length js)))
-
-by-rest : (b v : ℕ) (rest : List ℕ) (f : Found) (is : List Item) → b < 256 → v < 256 → itemLength b ≡ 1
-    → behind (record { type = itemType b; value = v }) f ≡ found is → ((js : List Item) → f ≡ found js → rest ≡ written rest js)
-    → b ∷ v ∷ rest ≡ written (b ∷ v ∷ rest) is
-by-rest b v rest (found js) is hb hv one e ih =
-    by-item b v rest js hb hv one (ih js refl)
-    ∙ ap (λ (ks : List Item). written (b ∷ v ∷ rest) ks) (found-same (record { type = itemType b; value = v } ∷ js) is e)
-by-rest b v rest broken is hb hv one e ih = absurd (not-found is e)
-
-pub items-back : (bs : List ℕ) (is : List Item) → Bytes bs → itemsIn bs ≡ found is → bs ≡ written bs is
-unfolding itemsIn itemBytes allZero
-items-back [] is h e = ap (λ (js : List Item). written [] js) (found-same [] is e)
-items-back (b ∷ []) is h e = by-zero (eqb b 0) refl e
-  where
-    by-zero : (t : Bool) → eqb b 0 ≡ t → cond t (found []) broken ≡ found is → b ∷ [] ≡ written (b ∷ []) is
-    by-zero true z q = by-end true [] is refl q b (eqb-true b 0 z)
-    by-zero false z q = absurd (not-found is q)
-items-back (b ∷ v ∷ rest) is h e =
-    by-zero (eqb b 0) refl e (λ js q. items-back rest js (tail-bytes v rest (tail-bytes b (v ∷ rest) h)) q)
-  where
-    by-length : (t : Bool) → eqb (itemLength b) 1 ≡ t → cond t (behind (record { type = itemType b; value = v }) (itemsIn rest)) broken ≡ found is
-        → ((js : List Item) → itemsIn rest ≡ found js → rest ≡ written rest js) → b ∷ v ∷ rest ≡ written (b ∷ v ∷ rest) is
-    by-length true l q ih = by-rest b v rest (itemsIn rest) is (h 0) (h 1) (eqb-true (itemLength b) 1 l) q ih
-    by-length false l q ih = absurd (not-found is q)
-
-    by-zero : (t : Bool) → eqb b 0 ≡ t
-        → cond t (cond (allZero (v ∷ rest)) (found []) broken) (cond (eqb (itemLength b) 1) (behind (record { type = itemType b; value = v }) (itemsIn rest)) broken) ≡ found is
-        → ((js : List Item) → itemsIn rest ≡ found js → rest ≡ written rest js) → b ∷ v ∷ rest ≡ written (b ∷ v ∷ rest) is
-    by-zero true z q ih = by-end (allZero (v ∷ rest)) (v ∷ rest) is refl q b (eqb-true b 0 z)
-    by-zero false z q ih = by-length (eqb (itemLength b) 1) refl q ih
+pub items-back : (bs : List ℕ) (is : List Item) → Bytes bs → itemsIn bs ≡ found is → bs ≡ itemBytes is ++ replicate (length bs - length (itemBytes is)) 0
+items-back bs is small e =
+    let k = behind-back bs 0 is small e in
+    let both : length (itemBytes is ++ replicate (k .zeros) 0) ≡ length (itemBytes is) + k .zeros = simp (length-append, length-replicate) in
+    let long : length bs ≡ length (itemBytes is) + k .zeros = ap length (k .are) ∙ both in
+    let left : k .zeros ≡ length bs - length (itemBytes is) = omega arith in
+    k .are ∙ ap (λ (n : ℕ). itemBytes is ++ replicate n 0) left

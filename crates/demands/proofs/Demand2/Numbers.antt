@@ -23,7 +23,7 @@ pub record FieldSays (f ptt squelch id muted summed several items : ℕ) : Type 
   pub ptts-is : ptts f ≡ summed
   pub sct-is : sct f ≡ several
   pub x-is : x f ≡ items
-  pub tx-reserved : several ≡ 0 → reserved Tx f ≡ 0
+  pub tx-reserved : reserved Tx f ≡ 4 * several
   pub rx-reserved : reserved Rx f ≡ 0
 
 pub field-says : (ptt squ id pm ptts sct x : ℕ) → ptt ≤ 5 → squ ≤ 1 → id ≤ 63 → pm ≤ 1 → ptts ≤ 1 → sct ≤ 1 → x ≤ 1

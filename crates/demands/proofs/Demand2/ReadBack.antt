@@ -1,39 +1,56 @@
--- A packet whose parts are known is read: no case of refusal holds, and the message is made of those parts.
+-- A packet whose parts are known is read: which cases of refusal are left, and that the message is made of those parts.
 use Prim.Native.Nat.{ℕ, _+_, _*_, _≤_}
 use mathlib.Core.Path.{_≡_, refl, ap, _∙_}
-use mathlib.Core.Bool.{true, not, _||_}
-use mathlib.Core.List.{List}
+use mathlib.Core.Bool.{Bool, false, not, _||_}
+use mathlib.Core.List.{List, [], _∷_}
 use native.Mathlib.Omega.{arith}
 use lib.ListN.{length}
 use lib.Dec.{ltb, eqb}
-use borrow.Author.Tests.{le-ltb, eq-eqb, ne-eqb}
+use borrow.Author.Tests.{le-ltb, ne-eqb}
 use Rattle.base.specs.Bytes.{isSet}
-use Rattle.packet.specs.Packet.{x, fieldAllowed, payloadAllowed, afterField, pttType, squ, pttId, pm, ptts, sct}
+use Rattle.packet.specs.Packet.{x, audioType, r2sType, fieldAllowed, payloadAllowed, afterField, pttType, squ, pttId, pm, ptts, sct}
 use Rattle.packet.specs.Items.{itemsAllowed, itemsOf, kept}
-use Rattle.packet.specs.Refusals.{NoCase}
+use Rattle.packet.specs.Refusals.{Case, _if_}
 use Rattle.reader.specs.Reading.{readerRefusals, messageOf, itemsHere}
 use Rattle.packet.specs.declared.message.Direction.{Direction}
-use Rattle.demands.proofs.Demand2.Chain.{_and_}
+use Rattle.demands.proofs.Demand2.Chain.{_also_}
 use Rattle.demands.proofs.Demand2.Parts.{HasParts}
 
-module _ (d : Direction) (p : List ℕ) (kind seq ts source ext w f : ℕ) (inner sound : List ℕ) (h : HasParts p kind seq ts source ext w f inner sound) where
-  pub no-case : (eqb kind 8 || eqb kind 123) ≡ true → 1 ≤ w → w ≤ 15 → fieldAllowed d f ≡ true → itemsAllowed d (x f) inner ≡ true
-      → payloadAllowed kind (length sound) ≡ true → NoCase (readerRefusals d ext p)
+-- the refusals that are left: those of the kind, the extension type, the field, the items and the payload
+abbrev pub casesLeft : (asked kind ext : ℕ) (field items sound : Bool) → List Case
+casesLeft asked kind ext field items sound =
+    1 if false
+    ∷ 2 if false
+    ∷ 3 if false
+    ∷ 4 if false
+    ∷ 5 if not (eqb kind audioType || eqb kind r2sType)
+    ∷ 6 if false
+    ∷ 7 if not (eqb ext asked)
+    ∷ 8 if false
+    ∷ 9 if false
+    ∷ 10 if not field
+    ∷ 11 if not items
+    ∷ 12 if not sound
+    ∷ []
+
+module _ (d : Direction) (p : List ℕ) (c kind seq ts source ext w f : ℕ) (inner sound : List ℕ) (h : HasParts p c kind seq ts source ext w f inner sound) where
+  pub cases-are : (asked : ℕ) → 1 ≤ w → w ≤ 15
+      → readerRefusals d asked p ≡ casesLeft asked kind ext (fieldAllowed d f) (itemsAllowed d (x f) inner) (payloadAllowed kind (length sound))
   unfolding readerRefusals
-  no-case k w1 w15 fa ia pa =
+  cases-are asked w1 w15 =
       le-ltb (length p) 12 (omega arith)
-      and (simp (h .version-is))
-      and (simp (h .padding-is, h .marker-is))
-      and (simp (h .extension-is))
-      and (simp (h .kind-is, k))
-      and (simp (h .csrc-is) (le-ltb (length p) 16 (omega arith)))
-      and (ap (λ (n : ℕ). not (eqb n ext)) (h .ext-is) ∙ simp (eq-eqb ext ext refl))
-      and (ap (λ (n : ℕ). eqb n 0 || ltb 15 n) (h .words-is) ∙ simp (ne-eqb w 0 (omega arith), le-ltb 15 w w15))
-      and (rw (h .words-is, h .csrc-is) (le-ltb (length p) (16 + 4 * w) (omega arith)))
-      and (ap (λ (n : ℕ). not (fieldAllowed d n)) (h .field-is) ∙ simp fa)
-      and (ap (λ (n : ℕ). not (itemsAllowed d (x n) (afterField p))) (h .field-is) ∙ simp (h .inner-is, ia))
-      and (simp (h .kind-is, h .sound-is, pa))
-      and tt
+      also (simp (h .version-is))
+      also (simp (h .padding-is, h .marker-is))
+      also (simp (h .extension-is))
+      also (simp (h .kind-is))
+      also (simp (h .csrc-is) (le-ltb (length p) (12 + 4 * c + 4) (omega arith)))
+      also (ap (λ (n : ℕ). not (eqb n asked)) (h .ext-is))
+      also (ap (λ (n : ℕ). eqb n 0 || ltb 15 n) (h .words-is) ∙ simp (ne-eqb w 0 (omega arith), le-ltb 15 w w15))
+      also (rw (h .words-is, h .csrc-is) (le-ltb (length p) (12 + 4 * c + 4 + 4 * w) (omega arith)))
+      also (ap (λ (n : ℕ). not (fieldAllowed d n)) (h .field-is))
+      also (ap (λ (n : ℕ). not (itemsAllowed d (x n) (afterField p))) (h .field-is) ∙ simp (h .inner-is))
+      also (simp (h .kind-is, h .sound-is))
+      also refl
 
   pub message-made : messageOf p
       ≡ record {

@@ -1,4 +1,4 @@
--- An accepted packet is written again with the same bytes exactly if it is plain.
+-- An accepted packet is written again with the same bytes exactly if it is plain and has no type 4 item.
 use Prim.Native.Nat.{ℕ, _≤_}
 use mathlib.Core.Path.{_≡_, refl, ap, sym, subst, _∙_}
 use mathlib.Core.List.{List, [], _++_}
@@ -6,59 +6,64 @@ use lib.ListN.{length, drop}
 use borrow.Author.Tests.{le-ltb}
 use Rattle.base.specs.Bytes.{Bytes}
 use Rattle.packet.specs.Packet.{wordCount, payloadType, payload}
+use Rattle.packet.specs.Items.{ddcType, hasType}
 use Rattle.packet.specs.Refusals.{Answer, accepted, refused, mapped}
 use Rattle.reader.specs.Reading.{messageOf, itemsHere, read, asTx, asRx, readTx, readRx}
-use Rattle.writer.specs.Writing.{fromTx, fromRx, fewestWords, kindFor, wordsOf, headOf, encode, writerRefusals, write, buffered}
+use Rattle.writer.specs.Writing.{fromTx, fromRx, fewestWords, kindFor, encode, writerRefusals, write, buffered}
 use Rattle.packet.specs.declared.message.Direction.{Direction}
 use Rattle.packet.specs.declared.message.Direction.the-variants.{Tx, Rx}
 use Rattle.packet.specs.declared.message.Message.{Message}
 use Rattle.demands.specs.Plain.{Plain}
 use Rattle.demands.specs.Inversion.{laid, csrcWords}
-use Rattle.demands.specs.Rewrite.{Rewritten, Rewrite, RewriteTx, RewriteRx}
+use Rattle.demands.specs.Rewrite.{WithoutDdc, Rewritten, Rewrite, RewriteTx, RewriteRx}
 use Rattle.packet.proofs.Judged.{never}
 use Rattle.reader.proofs.Passed.{Passed, accepted-passed}
 use Rattle.demands.proofs.Demand2.Inversion.{laid-out}
+use Rattle.demands.proofs.Demand2.RisingItems.{no-ddc}
 use Rattle.demands.proofs.Demand2.AllowedItems.{rising-are-kept}
 use Rattle.demands.proofs.Demand2.Written.{itemsFor}
-use Rattle.demands.proofs.Demand2.RoundTrip.{plain-written}
+use Rattle.demands.proofs.Demand2.RoundTrip.{laid-plain, plain-written, items-here}
 use Rattle.demands.proofs.Demand2.Accepted.{items-stand, kind-is, numbers-fit, message-writable, tx-says-all, rx-says-all}
-
--- laid out with no CSRC words, and with the kind, the words and the items that the writer chooses, it is what the writer writes
-laid-plain : (ext : ℕ) (m : Message) (sound : List ℕ)
-    → laid [] (kindFor (length sound)) ext (fewestWords (itemsFor m)) m (itemsFor m) sound ≡ encode ext m sound
-unfolding laid encode headOf wordsOf
-laid-plain ext m sound = refl
 
 module _ (d : Direction) (ext : ℕ) (p : List ℕ) (small : Bytes p) (h : Passed d ext p) where
   abbrev m : Message
   m = messageOf p
 
-  same-items : Plain p → itemsFor m ≡ itemsHere p
+  same-items : Plain p → WithoutDdc p → itemsFor m ≡ itemsHere p
   unfolding messageOf itemsHere
-  same-items plain = rising-are-kept d (itemsHere p) (items-stand d ext p small h) (plain .rising)
+  same-items plain none = rising-are-kept d (itemsHere p) (items-stand d ext p small h) none (plain .rising)
 
   no-csrc : Plain p → csrcWords p ≡ []
   unfolding csrcWords
   no-csrc plain = simp (plain .no-csrc)
 
-  same-bytes : Plain p → encode ext m (payload p) ≡ p
-  same-bytes plain =
+  same-bytes : Plain p → WithoutDdc p → encode ext m (payload p) ≡ p
+  same-bytes plain none =
       let chosen : laid (csrcWords p) (payloadType p) ext (wordCount p) m (itemsHere p) (payload p)
       ≡ laid [] (kindFor (length (payload p))) ext (fewestWords (itemsFor m)) m (itemsFor m) (payload p) =
-      simp (no-csrc plain, kind-is d ext p small h, plain .fewest, same-items plain) in
+      simp (no-csrc plain, kind-is d ext p small h, plain .fewest, same-items plain none) in
       sym (laid-out d ext p small h ∙ chosen ∙ laid-plain ext m (payload p))
 
-  plain-if-same : encode ext m (payload p) ≡ p → Plain p
-  plain-if-same e = subst Plain e (plain-written ext m (payload p) (numbers-fit d ext p small h) (message-writable d ext p small h))
+  plain-if-same : encode ext m (payload p) ≡ p → Plain p × WithoutDdc p
+  plain-if-same e =
+      let fits = numbers-fit d ext p small h in
+      let fine = message-writable d ext p small h in
+      subst (λ (q : List ℕ). Plain q × WithoutDdc q) e
+      (plain-written ext m (payload p) fits fine, ap (hasType ddcType) (items-here ext m (payload p) fits fine) ∙ no-ddc (m .items))
 
-  stands-again : Plain p → (buffer : List ℕ) → length p ≤ length buffer
+  stands-again : Plain p → WithoutDdc p → (buffer : List ℕ) → length p ≤ length buffer
       → (write ext m (payload p) (length buffer) ≡ accepted (length p)) × (buffered ext m (payload p) buffer ≡ p ++ drop (length p) buffer)
   unfolding write writerRefusals buffered
-  stands-again plain buffer room =
-      simp (same-bytes plain, message-writable d ext p small h, le-ltb (length buffer) (length p) room) (refl, refl)
+  stands-again plain none buffer room =
+      simp (same-bytes plain none, message-writable d ext p small h, le-ltb (length buffer) (length p) room) (refl, refl)
 
   rewritten : Rewritten ext p m
-  rewritten = record { writes = message-writable d ext p small h; same = (plain-if-same, same-bytes); stands = stands-again }
+  rewritten =
+      record {
+        writes = message-writable d ext p small h;
+        same = (plain-if-same, λ (both : Plain p × WithoutDdc p). same-bytes (both .0) (both .1));
+        stands = stands-again;
+      }
 
 pub rewrite : Rewrite
 rewrite d ext p m small e =

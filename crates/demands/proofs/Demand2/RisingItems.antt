@@ -6,7 +6,7 @@ use mathlib.Core.List.{List, _++_}
 use native.Mathlib.Omega.{arith}
 use lib.Dec.{leb, eqb}
 use borrow.Author.Tests.{leb-true}
-use Rattle.packet.specs.Items.{Item, sqiAllowed, itemAllowed, allAllowed, hasType, noTypeTwice, sqiAmong, climaxAmong, sideAmong, kept}
+use Rattle.packet.specs.Items.{Item, ddcType, sqiAllowed, itemAllowed, allAllowed, hasType, noTypeTwice, sqiAmong, climaxAmong, sideAmong, kept}
 use Rattle.writer.specs.Writing.{sqiListed, climaxListed, sideListed, risingItems, sqiWritable, climaxWritable}
 use Rattle.packet.specs.declared.message.Direction.the-variants.{Tx, Rx}
 use Rattle.packet.specs.declared.message.SqiItem.{SqiItem}
@@ -37,13 +37,13 @@ quality-least q m e = by-method (eqb m 0) (and-right (leb m 3) _ e)
     by-method false h = leb-true q 31 h
 
 pub sqi-value : (q m : ℕ) → sqiAllowed q m ≡ true
-    → ((q * 8 + m * 1) / 8 % 32 ≡ q) × ((q * 8 + m * 1) / 1 % 8 ≡ m) × (q * 8 + m * 1 < 256)
+    → ((q * 8 + m * 1) % 256 / 8 % 32 ≡ q) × ((q * 8 + m * 1) % 256 / 1 % 8 ≡ m)
 sqi-value q m e =
     let a = method-least q m e in
     let b = quality-least q m e in
     omega arith
 
-pub climax-value : (v : ℕ) → leb v 127 ≡ true → ((128 + v * 1) / 1 % 128 ≡ v) × ((128 + v * 1) / 128 % 2 ≡ 1) × (128 + v * 1 < 256)
+pub climax-value : (v : ℕ) → leb v 127 ≡ true → ((128 + v * 1) % 256 / 1 % 128 ≡ v) × ((128 + v * 1) % 256 / 128 % 2 ≡ 1)
 climax-value v e = let h = leb-true v 127 e in omega arith
 
 -- ---- the side, the delay before it, the quality before both
@@ -53,14 +53,13 @@ side-writes side.Absent = tt
 side-writes side.Main = omega arith
 side-writes side.Standby = omega arith
 
-climax-writes : (c : ClimaxItem) (e : SideItem) → climaxWritable c ≡ true → AllWrite (climaxListed c ++ sideListed e)
-climax-writes climax.Absent e h = side-writes e
-climax-writes (climax.Is v) e h = (record { some = omega arith; type = omega arith; value = climax-value v h .2 }, side-writes e)
+climax-writes : (c : ClimaxItem) (e : SideItem) → AllWrite (climaxListed c ++ sideListed e)
+climax-writes climax.Absent e = side-writes e
+climax-writes (climax.Is v) e = (omega arith, side-writes e)
 
-sqi-writes : (s : SqiItem) (c : ClimaxItem) (e : SideItem) → sqiWritable s ≡ true → climaxWritable c ≡ true
-    → AllWrite (sqiListed s ++ climaxListed c ++ sideListed e)
-sqi-writes sqi.Absent c e h k = climax-writes c e k
-sqi-writes (sqi.Is q m) c e h k = (record { some = omega arith; type = omega arith; value = sqi-value q m h .2 }, climax-writes c e k)
+sqi-writes : (s : SqiItem) (c : ClimaxItem) (e : SideItem) → AllWrite (sqiListed s ++ climaxListed c ++ sideListed e)
+sqi-writes sqi.Absent c e = climax-writes c e
+sqi-writes (sqi.Is q m) c e = (omega arith, climax-writes c e)
 
 side-kept : (c : ClimaxItem) (e : SideItem) → sideAmong (climaxListed c ++ sideListed e) ≡ e
 unfolding sideAmong
@@ -108,6 +107,22 @@ orderly (sqi.Is q m) (climax.Is v) side.Absent = (refl, omega arith)
 orderly (sqi.Is q m) (climax.Is v) side.Main = (refl, omega arith)
 orderly (sqi.Is q m) (climax.Is v) side.Standby = (refl, omega arith)
 
+-- writers never write type 4
+none-written : (s : SqiItem) (c : ClimaxItem) (e : SideItem) → hasType ddcType (sqiListed s ++ climaxListed c ++ sideListed e) ≡ false
+unfolding hasType
+none-written sqi.Absent climax.Absent side.Absent = refl
+none-written sqi.Absent climax.Absent side.Main = refl
+none-written sqi.Absent climax.Absent side.Standby = refl
+none-written sqi.Absent (climax.Is v) side.Absent = refl
+none-written sqi.Absent (climax.Is v) side.Main = refl
+none-written sqi.Absent (climax.Is v) side.Standby = refl
+none-written (sqi.Is q m) climax.Absent side.Absent = refl
+none-written (sqi.Is q m) climax.Absent side.Main = refl
+none-written (sqi.Is q m) climax.Absent side.Standby = refl
+none-written (sqi.Is q m) (climax.Is v) side.Absent = refl
+none-written (sqi.Is q m) (climax.Is v) side.Main = refl
+none-written (sqi.Is q m) (climax.Is v) side.Standby = refl
+
 in-tx : (c : ClimaxItem) (e : SideItem) → climaxWritable c ≡ true → allAllowed Tx (climaxListed c ++ sideListed e) ≡ true
 unfolding allAllowed itemAllowed
 in-tx climax.Absent side.Absent h = refl
@@ -128,9 +143,9 @@ in-rx (sqi.Is q m) side.Standby h = simp (sqi-value q m h .0, sqi-value q m h .1
 
 -- ---- the same, of a message's items
 
-pub rising-writes : (k : Items) → sqiWritable (k .sqi) ≡ true → climaxWritable (k .climax) ≡ true → AllWrite (risingItems k)
+pub rising-writes : (k : Items) → AllWrite (risingItems k)
 unfolding risingItems
-rising-writes k h j = sqi-writes (k .sqi) (k .climax) (k .side) h j
+rising-writes k = sqi-writes (k .sqi) (k .climax) (k .side)
 
 pub rising-kept : (k : Items) → sqiWritable (k .sqi) ≡ true → climaxWritable (k .climax) ≡ true → kept (risingItems k) ≡ k
 unfolding risingItems
@@ -143,6 +158,10 @@ rising-once k = orderly (k .sqi) (k .climax) (k .side) .0
 pub rising-rises : (k : Items) → Rising (risingItems k)
 unfolding risingItems
 rising-rises k = orderly (k .sqi) (k .climax) (k .side) .1
+
+pub no-ddc : (k : Items) → hasType ddcType (risingItems k) ≡ false
+unfolding risingItems
+no-ddc k = none-written (k .sqi) (k .climax) (k .side)
 
 pub rising-in-tx : (k : Items) → k .sqi ≡ sqi.Absent → climaxWritable (k .climax) ≡ true → allAllowed Tx (risingItems k) ≡ true
 unfolding risingItems

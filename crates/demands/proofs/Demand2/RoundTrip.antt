@@ -1,82 +1,68 @@
 -- What the writers write reads back as the same message, with the same audio, and is plain.
 use Prim.Native.Nat.{ℕ}
-use mathlib.Core.Path.{_≡_, refl, ap, _∙_}
-use mathlib.Core.Bool.{true, false}
-use mathlib.Core.List.{List}
+use mathlib.Core.Path.{_≡_, refl, ap, sym, _∙_}
+use mathlib.Core.Bool.{true}
+use mathlib.Core.List.{List, []}
+use native.Mathlib.Omega.{arith}
 use lib.ListN.{length}
-use Rattle.packet.specs.Packet.{x, fieldAllowed, payload}
-use Rattle.packet.specs.Items.{itemsAllowed, itemsOf, allAllowed}
+use Rattle.packet.specs.Packet.{csrcCount, wordCount, payload}
+use Rattle.packet.specs.Items.{allAllowed}
 use Rattle.packet.specs.Refusals.{accepted, mapped}
-use Rattle.reader.specs.Reading.{messageOf, itemsHere, read, readerRefusals, asTx, asRx, readTx, readRx}
-use Rattle.writer.specs.Writing.{fromTx, fromRx, encode, writable}
+use Rattle.reader.specs.Reading.{itemsHere, read, asTx, asRx, readTx, readRx}
+use Rattle.writer.specs.Writing.{fromTx, fromRx, fewestWords, wordsOf, kindFor, headOf, encode, writable}
 use Rattle.packet.specs.declared.message.Direction.{Direction}
 use Rattle.packet.specs.declared.message.Direction.the-variants.{Tx, Rx}
-use Rattle.packet.specs.declared.message.SqiItem.the-variants as sqi
-use Rattle.packet.specs.declared.message.ClimaxItem.the-variants as climax
 use Rattle.packet.specs.declared.message.Message.{Message}
+use Rattle.demands.specs.Inversion.{laid}
 use Rattle.demands.specs.RoundTrip.{Narrow, RoundTripTx, RoundTripRx, PlainWritten, ReportsReadBack}
-use Rattle.demands.proofs.Demand2.ItemsBack.{AllWrite, list-back, allowed-back}
-use Rattle.demands.proofs.Demand2.RisingItems.{rising-writes, rising-kept, rising-once, rising-rises, rising-in-tx, rising-in-rx}
-use Rattle.packet.proofs.Judged.{accepts, meets-none}
+use Rattle.packet.proofs.Judged.{meets-none}
 use Rattle.reporting.specs.Reporting.{reportOf, reportRefusals, reportSaid, reportBytes}
 use Rattle.reporting.proofs.Accepted.{report-accepted}
 use Rattle.reporting.proofs.ReportLaws.{report-writable}
-use Rattle.writer.proofs.Words.{at-most-three}
-use Rattle.demands.proofs.Demand2.ReadBack.{no-case, message-made}
-use Rattle.demands.proofs.Demand2.Written.{Writable, writable-is, bit-set, SaysOf, field-written, allowed-in-tx, allowed-in-rx, kind-allowed, sound-allowed, zerosFor, afterFieldOf, few-words, itemsFor, fieldFor, Written, written}
+use Rattle.writer.proofs.Words.{few-words}
+use Rattle.demands.proofs.Demand2.RisingItems.{rising-writes, rising-kept, rising-once, rising-rises, rising-in-tx, rising-in-rx}
+use Rattle.demands.proofs.Demand2.Written.{Writable, writable-is, kind-allowed, kind-narrow, sound-allowed, itemsFor}
+use Rattle.demands.proofs.Demand2.Laid.{Says, Fit}
+use Rattle.demands.proofs.Demand2.Laid as of-laid
 
--- a message of a direction: what its packets cannot say is off or absent
-abbrev pub Says : Direction → Message → Type 0
-Says Tx m = (m .squ ≡ false) × (m .sct ≡ false) × (m .items .sqi ≡ sqi.Absent)
-Says Rx m = m .items .climax ≡ climax.Absent
+-- laid out with no CSRC words, and with the kind, the words and the items that the writer chooses
+pub laid-plain : (ext : ℕ) (m : Message) (sound : List ℕ)
+    → laid [] (kindFor (length sound)) ext (fewestWords (itemsFor m)) m (itemsFor m) sound ≡ encode ext m sound
+unfolding laid encode headOf wordsOf
+laid-plain ext m sound = refl
 
 module _ (ext : ℕ) (m : Message) (sound : List ℕ) (narrow : Narrow ext m) (fine : writable m (length sound) ≡ true) where
   passed : Writable m (length sound)
   passed = writable-is m (length sound) fine
 
-  parts : Written ext m sound
-  parts = written ext m sound narrow (passed .ptt) (passed .id)
-
-  says : SaysOf (fieldFor m) m (itemsFor m)
-  says = field-written m (itemsFor m) (passed .ptt) (passed .id)
-
-  fits : AllWrite (itemsFor m)
-  fits = rising-writes (m .items) (passed .sqi) (passed .climax)
-
-  items-back : itemsOf (x (fieldFor m)) (afterFieldOf (itemsFor m)) ≡ itemsFor m
-  items-back = simp (says .x-is) (list-back (itemsFor m) (zerosFor (itemsFor m)) fits)
-
-  message-back : messageOf (encode ext m sound) ≡ m
-  message-back =
-      message-made Tx (encode ext m sound) _ _ _ _ _ _ _ _ _ parts
-      ∙ simp (says .ptt-is, says .squ-is, says .id-is, says .pm-is, says .ptts-is, says .sct-is, bit-set, items-back, rising-kept (m .items) (passed .sqi) (passed .climax))
-
-  field-allowed : (d : Direction) → Says d m → fieldAllowed d (fieldFor m) ≡ true
-  field-allowed Tx s = allowed-in-tx (fieldFor m) m (itemsFor m) says (passed .ptt) (s .0) (s .1)
-  field-allowed Rx s = allowed-in-rx (fieldFor m) m (itemsFor m) says (passed .ptt)
+  fit : Fit [] (kindFor (length sound)) ext (fewestWords (itemsFor m)) m (itemsFor m)
+  fit =
+      record {
+        whole = refl;
+        few = omega arith;
+        kind-narrow = kind-narrow (length sound);
+        narrow = narrow;
+        ptt = passed .ptt;
+        id = passed .id;
+        writes = rising-writes (m .items);
+        room = (omega arith, omega (arith, few-words (m .items)));
+      }
 
   types-allowed : (d : Direction) → Says d m → allAllowed d (itemsFor m) ≡ true
   types-allowed Tx s = rising-in-tx (m .items) (s .2) (passed .climax)
   types-allowed Rx s = rising-in-rx (m .items) s (passed .sqi)
 
-  items-allowed : (d : Direction) → Says d m → itemsAllowed d (x (fieldFor m)) (afterFieldOf (itemsFor m)) ≡ true
-  items-allowed d s = simp (says .x-is) (allowed-back d (itemsFor m) (zerosFor (itemsFor m)) fits (types-allowed d s) (rising-once (m .items)))
-
   pub read-back : (d : Direction) → Says d m → read d ext (encode ext m sound) ≡ accepted m
-  unfolding read
   read-back d s =
-      let few = few-words (itemsFor m) (at-most-three (m .items)) in
-      accepts (messageOf (encode ext m sound)) (readerRefusals d ext (encode ext m sound))
-      (no-case d (encode ext m sound) _ _ _ _ _ _ _ _ _ parts (kind-allowed (length sound)) (few .0) (few .1) (field-allowed d s)
-      (items-allowed d s) (sound-allowed (length sound) (passed .sound)))
-      ∙ ap accepted message-back
+      ap (read d ext) (sym (laid-plain ext m sound))
+      ∙ of-laid.read-back [] _ ext _ m (itemsFor m) sound fit d s (types-allowed d s) (rising-once (m .items)) (rising-kept (m .items) (passed .sqi) (passed .climax))
+      (kind-allowed (length sound)) (sound-allowed (length sound) (passed .sound))
 
   pub sound-back : payload (encode ext m sound) ≡ sound
-  sound-back = parts .sound-is
+  sound-back = ap payload (sym (laid-plain ext m sound)) ∙ of-laid.sound-back [] _ ext _ m (itemsFor m) sound fit
 
   pub items-here : itemsHere (encode ext m sound) ≡ itemsFor m
-  unfolding itemsHere
-  items-here = simp (parts .field-is, parts .inner-is, items-back)
+  items-here = ap itemsHere (sym (laid-plain ext m sound)) ∙ of-laid.items-here [] _ ext _ m (itemsFor m) sound fit
 
 pub round-trip-tx : RoundTripTx
 unfolding readTx
@@ -90,9 +76,14 @@ round-trip-rx ext m sound narrow fine =
 
 pub plain-written : PlainWritten
 plain-written ext m sound narrow fine =
+    let is-laid = sym (laid-plain ext m sound) in
+    let parts = of-laid.parts [] _ ext _ m (itemsFor m) sound (fit ext m sound narrow fine) in
     let held = items-here ext m sound narrow fine in
-    let parts = parts ext m sound narrow fine in
-    record { no-csrc = parts .csrc-is; rising = simp held (rising-rises (m .items)); fewest = parts .words-is ∙ simp held }
+    record {
+      no-csrc = ap csrcCount is-laid ∙ parts .csrc-is;
+      rising = simp held (rising-rises (m .items));
+      fewest = ap wordCount is-laid ∙ parts .words-is ∙ simp held;
+    }
 
 pub reports-read-back : ReportsReadBack
 unfolding reportBytes reportSaid

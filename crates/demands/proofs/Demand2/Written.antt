@@ -13,14 +13,13 @@ use Rattle.packet.specs.Packet.{audioLength, payloadAllowed, fieldAllowed}
 use Rattle.packet.specs.Items.{Item, someItem}
 use Rattle.packet.specs.Refusals.{Answer}
 use Rattle.writer.specs.Writing.{risingItems, itemBytes, fewestWords, fieldOf, wordsOf, kindFor, headOf, encode, sqiWritable, climaxWritable, writable, writerRefusals, write, filled, buffered}
+use Rattle.packet.specs.declared.message.Direction.{Direction}
 use Rattle.packet.specs.declared.message.Direction.the-variants.{Tx, Rx}
 use Rattle.packet.specs.declared.message.Message.{Message}
 use Rattle.demands.specs.RoundTrip.{Narrow, WrittenAtFront}
 use Rattle.demands.proofs.Demand2.Numbers.{FieldSays, field-says}
 use Rattle.base.proofs.Truths.{and-left, and-right, bit-most}
 use Rattle.packet.proofs.Judged.{meets-none}
-use Rattle.writer.proofs.Words.{item-bytes-length, at-most-three}
-use Rattle.demands.proofs.Demand2.Parts.{HasParts, has-parts}
 
 pub record Writable (m : Message) (n : ℕ) : Type 0 where
   pub ptt : m .ptt ≤ 5
@@ -61,11 +60,17 @@ field-written m is hp hi =
 pub allowed-in-tx : (f : ℕ) (m : Message) (is : List Item) → SaysOf f m is → m .ptt ≤ 5 → m .squ ≡ false → m .sct ≡ false
     → fieldAllowed Tx f ≡ true
 unfolding fieldAllowed
-allowed-in-tx f m is h hp q s = simp (h .ptt-is, le-leb (m .ptt) 5 hp, h .squ-is, q, h .tx-reserved (ap bit s))
+allowed-in-tx f m is h hp q s = simp (h .ptt-is, le-leb (m .ptt) 5 hp, h .squ-is, q, h .tx-reserved, s)
 
 pub allowed-in-rx : (f : ℕ) (m : Message) (is : List Item) → SaysOf f m is → m .ptt ≤ 5 → fieldAllowed Rx f ≡ true
 unfolding fieldAllowed
 allowed-in-rx f m is h hp = simp (h .ptt-is, le-leb (m .ptt) 5 hp, h .rx-reserved)
+
+-- whichever items X speaks of
+pub allowed-alike : (d : Direction) (f g : ℕ) (m : Message) (is js : List Item) → SaysOf f m is → SaysOf g m js → fieldAllowed d f ≡ fieldAllowed d g
+unfolding fieldAllowed
+allowed-alike Tx f g m is js h k = simp (h .ptt-is, h .squ-is, h .tx-reserved, k .ptt-is, k .squ-is, k .tx-reserved)
+allowed-alike Rx f g m is js h k = simp (h .ptt-is, h .rx-reserved, k .ptt-is, k .rx-reserved)
 
 -- ---- the kind
 
@@ -76,7 +81,7 @@ kind-allowed n = by-test (eqb n 0)
     by-test true = refl
     by-test false = refl
 
-kind-narrow : (n : ℕ) → kindFor n < 128
+pub kind-narrow : (n : ℕ) → kindFor n < 128
 kind-narrow n = by-test (eqb n 0)
   where
     by-test : (t : Bool) → cond t 123 8 < 128
@@ -91,41 +96,13 @@ sound-allowed n h = by-test (eqb n 0) (audioLength n) h
     by-test true a h = refl
     by-test false a h = h
 
--- ---- the words
-
-abbrev pub zerosFor : List Item → ℕ
-zerosFor is = 4 * fewestWords is - (2 + 2 * length is)
-
-abbrev pub afterFieldOf : List Item → List ℕ
-afterFieldOf is = itemBytes is ++ replicate (zerosFor is) 0
-
-words-filled : (is : List Item) → length (afterFieldOf is) + 2 ≡ 4 * fewestWords is
-words-filled is = simp (length-append, length-replicate, item-bytes-length) (omega arith)
-
-pub few-words : (is : List Item) → length is ≤ 3 → (1 ≤ fewestWords is) × (fewestWords is ≤ 15)
-few-words is h = omega arith
-
--- ---- the packet
+-- ---- its items and its field
 
 abbrev pub itemsFor : Message → List Item
 itemsFor m = risingItems (m .items)
 
 abbrev pub fieldFor : Message → ℕ
 fieldFor m = fieldOf m (itemsFor m)
-
--- the packet that is written has the message's parts
-abbrev pub Written : (ext : ℕ) → Message → (sound : List ℕ) → Type 0
-Written ext m sound =
-    HasParts (encode ext m sound) (kindFor (length sound)) (m .sequence) (m .timestamp) (m .ssrc) ext (fewestWords (itemsFor m)) (fieldFor m)
-    (afterFieldOf (itemsFor m)) sound
-
-pub written : (ext : ℕ) (m : Message) (sound : List ℕ) → Narrow ext m → m .ptt ≤ 5 → m .id ≤ 63 → Written ext m sound
-unfolding encode headOf wordsOf
-written ext m sound w hp hi =
-    let few = few-words (itemsFor m) (at-most-three (m .items)) in
-    has-parts (kindFor (length sound)) (m .sequence) (m .timestamp) (m .ssrc) ext (fewestWords (itemsFor m)) (fieldFor m) (afterFieldOf (itemsFor m)) sound
-    (kind-narrow (length sound)) (w .sequence) (w .timestamp) (w .ssrc) (w .extension) (omega arith) (field-written m (itemsFor m) hp hi .narrow)
-    (words-filled (itemsFor m))
 
 -- ---- the buffer
 

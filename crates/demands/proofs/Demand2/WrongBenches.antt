@@ -4,11 +4,12 @@ use mathlib.Core.Path.{_≡_, refl, sym, ap, ap₂, _∙_}
 use mathlib.Core.Bool.{Bool, true, false, cond, _&&_, false≢true}
 use mathlib.Core.List.{List, [], _∷_}
 use native.Mathlib.Omega.{arith}
+use Rattle.base.proofs.Truths.{and-none}
 use Rattle.packet.specs.Refusals.{Answer, accepted, refused, mapped}
 use Rattle.base.specs.Lists.{howMany}
 use Rattle.base.specs.Order.{centred, distance, late, missing}
 use Rattle.packet.specs.Packet.{payload, payloadAllowed, fieldAllowed, afterField, off, normal}
-use Rattle.packet.specs.Items.{allZero, itemsIn, itemAllowed, allAllowed, hasType, noTypeTwice, runAllowed, itemsAllowed, itemsOf, sqiAmong, climaxAmong, sideAmong, kept}
+use Rattle.packet.specs.Items.{allZero, itemsBehind, itemAllowed, allAllowed, hasType, noTypeTwice, runAllowed, itemsAllowed, itemsOf, sqiAmong, climaxAmong, sideAmong, kept}
 use Rattle.packet.specs.Quality.{quality}
 use Rattle.reader.specs.Reading.{readerRefusals, itemsHere, messageOf}
 use Rattle.writer.specs.Writing.{risingItems, itemBytes, wordsOf, headOf, encode}
@@ -33,7 +34,7 @@ use Rattle.demands.proofs.Demand2.Nodding.{nodding-apart}
 -- ---- the calls that are tried, computed
 
 tried : Tried
-unfolding centred distance late missing payload payloadAllowed fieldAllowed afterField allZero itemsIn itemAllowed allAllowed hasType noTypeTwice runAllowed itemsAllowed itemsOf sqiAmong climaxAmong sideAmong kept quality readerRefusals itemsHere messageOf risingItems itemBytes wordsOf headOf encode openedSeat freshBench seatOf lesson anyCoupling openRefusals openSaid openedBench takesPart keyingsOf keyings topRank atRank leaders added onAir among smallest howMany anySends airOf benchAir fieldHeard keyingBarred idAllowed sideBarred seatRefusals messageRefusals packetRefusals heardSeat begins toLast orderAfter takesEffect sideAfter heardBench sameField isSent hearing packetSaid audioIn reportOf reportBytes reportRefusals reportSaid reportedBench step after
+unfolding centred distance late missing payload payloadAllowed fieldAllowed afterField allZero itemsBehind itemAllowed allAllowed hasType noTypeTwice runAllowed itemsAllowed itemsOf sqiAmong climaxAmong sideAmong kept quality readerRefusals itemsHere messageOf risingItems itemBytes wordsOf headOf encode openedSeat freshBench seatOf lesson anyCoupling openRefusals openSaid openedBench takesPart keyingsOf keyings topRank atRank leaders added onAir among smallest howMany anySends airOf benchAir fieldHeard keyingBarred idAllowed sideBarred seatRefusals messageRefusals packetRefusals heardSeat begins toLast orderAfter takesEffect sideAfter heardBench sameField isSent hearing packetSaid audioIn reportOf reportBytes reportRefusals reportSaid reportedBench step after
 tried =
     record {
       opens = refl;
@@ -98,11 +99,7 @@ shut-out (inventing count) keeps =
 
 quiet-start : (setup : Setup) → liveAboveTest (freshBench setup) seatNumbers ≡ false
 unfolding liveAboveTest freshBench takesPart seatOf
-quiet-start setup = simp (and-never)
-  where
-    and-never : (t : Bool) → t && false ≡ false
-    and-never true = refl
-    and-never false = refl
+quiet-start setup = simp and-none
 
 module _ (machine : Machine) (still : (b : Bench) (c : Call) → machine b c .bench ≡ b) where
   stays : (b : Bench) (cs : List Call) → afterBy machine b cs ≡ b

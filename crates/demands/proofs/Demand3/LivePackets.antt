@@ -14,20 +14,15 @@ use Rattle.bench.specs.Step.{packet, heard, told, step}
 use Rattle.record.specs.declared.seat.Seat.{Seat}
 use Rattle.record.specs.declared.whole.Bench.{Bench}
 use Rattle.demands.specs.Apart.{named, pttOf, liveAboveTest, fixed}
-use Rattle.packet.proofs.Judged.{accepts, judged-one}
+use Rattle.packet.proofs.Judged.{judged-one}
 use Rattle.hearing.proofs.Accepted.{PacketAccepted, packet-accepted}
-use Rattle.hearing.proofs.AudioSent.{audio-sent}
+use Rattle.hearing.proofs.AudioSent.{sound-is}
 use Rattle.demands.proofs.Demand3.WithoutLessons.{low, seat-low}
 use Rattle.demands.proofs.Demand3.LiveAir.{Up, lesson-off-air}
 use Rattle.demands.proofs.Demand3.LessonSeats.{Held, held-heard}
 use Rattle.demands.proofs.Demand3.BenchAir.{keyings-test-at-most, up-is}
 use Rattle.demands.proofs.Demand3.SentAudio.{seat-heard, heard-low, sent-is, sent-same, sent-not-test}
 use Rattle.demands.proofs.Demand3.LiveCalls.{Match, match-judged}
-
--- the audio of an accepted packet, sent or not
-sound-is : (b : Bench) (n : ℕ) (p : List ℕ) → NoCase (packetRefusals (b .setup) n (seatOf (b .seats) n) p)
-    → audioIn (packetSaid b n p) p ≡ cond (isSent b n (messageIn p)) (payload p) []
-sound-is b n p h = audio-sent b n p (hearing b n p) (unfold packetSaid in accepts (hearing b n p) (packetRefusals (b .setup) n (seatOf (b .seats) n) p) h)
 
 module _ (b : Bench) (n : ℕ) (p : List ℕ) (i : Held b) (live : lesson (b .setup) n ≡ false) where
   refusals-low : packetRefusals (low b .setup) n (seatOf (low b .seats) n) p ≡ packetRefusals (b .setup) n (seatOf (b .seats) n) p

@@ -7,7 +7,7 @@ use native.Mathlib.Omega.{arith}
 use lib.ListN.{length, getD}
 use Rattle.base.specs.Bytes.{bit}
 use Rattle.packet.specs.Refusals.{NoCase, accepted}
-use Rattle.writer.specs.Writing.{fromRx, risingItems, fewestWords, encode}
+use Rattle.writer.specs.Writing.{fromRx, risingItems, itemBytes, fewestWords, encode}
 use Rattle.packet.specs.Items.{rssi}
 use Rattle.packet.specs.Quality.{quality}
 use Rattle.packet.specs.declared.message.SqiItem.the-variants as sqi
@@ -53,7 +53,7 @@ itemsTold : (squ pair standby : Bool) (q : ℕ) → Items
 itemsTold squ pair standby q = record { sqi = cond squ (sqi.Is q rssi) sqi.Absent; climax = climax.Absent; side = sideTold pair standby }
 
 words-told : (squ pair standby : Bool) (q : ℕ) → fewestWords (risingItems (itemsTold squ pair standby q)) ≡ 1 + bit (squ && pair)
-unfolding risingItems itemsTold
+unfolding risingItems itemsTold itemBytes
 words-told true true true q = refl
 words-told true true false q = refl
 words-told true false standby q = refl

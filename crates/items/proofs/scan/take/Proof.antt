@@ -1,15 +1,15 @@
 use Rattle.base.proofs.Tests.{tests}
+use native.Mathlib.Omega.{arith}
+use borrow.Author.Tests.{ne-eqb}
+use Rattle.packet.specs.Items.{itemLength}
 use Rattle.items.specs.Scan.{takeItem}
 use borrow.Author.Needs.{needs}
 use Rattle.items.proofs.scan.take.Statement.{statement}
 use Rattle.items.proofs.scan.take.Tie as tie
 
-at-requires : tie.Need-at-requires
-at-requires c κs = search needs
-
 returns : tie.Need-returns
 unfolding takeItem
-returns c = search (tests, c .at .ensures, c .before .if1 .taken)
+returns c = simp (ne-eqb (itemLength (c .before .args .head)) 1 (omega (arith, c .if1 .taken)))
 
 take-sqi-requires : tie.Need-take-sqi-requires
 take-sqi-requires c κs = search needs
@@ -32,18 +32,14 @@ returns-4 : tie.Need-returns-4
 unfolding takeItem
 returns-4 c = search (tests, c .take-side .ensures, c .before .if4 .taken, c .before .before .before .before .if1 .left)
 
-at-requires-2 : tie.Need-at-requires-2
-at-requires-2 c κs = search needs
-
 returns-5 : tie.Need-returns-5
 unfolding takeItem
-returns-5 c = search (tests, c .at2 .ensures, c .before .if4 .left, c .before .before .if3 .left, c .before .before .before .if2 .left, c .before .before .before .before .if1 .left)
+returns-5 c = search (tests, c .if4 .left, c .before .if3 .left, c .before .before .if2 .left, c .before .before .before .if1 .left)
 
 pub take-spec : {M : Type 1} → statement M
 take-spec =
     tie.close
     (tie.spec
-    at-requires
     returns
     take-sqi-requires
     returns-2
@@ -51,5 +47,4 @@ take-spec =
     returns-3
     take-side-requires
     returns-4
-    at-requires-2
     returns-5)

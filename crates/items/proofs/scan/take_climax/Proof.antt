@@ -7,20 +7,13 @@ use Rattle.items.proofs.scan.take_climax.Tie as tie
 climax-free-requires : tie.Need-climax-free-requires
 climax-free-requires c κs = search needs
 
-at-requires : tie.Need-at-requires
-at-requires c κs = search needs
-
-at-requires-2 : tie.Need-at-requires-2
-at-requires-2 c κs = search needs
-
 returns : tie.Need-returns
 unfolding takeClimax
-returns c = simp (div-one, c .at .ensures, ← c .before .before .climax-free .ensures, c .before .if1 .taken)
+returns c = simp (div-one, ← c .before .climax-free .ensures, c .if1 .taken)
 
 returns-2 : tie.Need-returns-2
 unfolding takeClimax
-returns-2 c = simp (div-one, c .at2 .ensures, ← c .before .before .climax-free .ensures, c .before .if1 .left)
+returns-2 c = simp (div-one, ← c .before .climax-free .ensures, c .if1 .left)
 
 pub take-climax-spec : {M : Type 1} → statement M
-take-climax-spec =
-    tie.close (tie.spec climax-free-requires at-requires at-requires-2 returns returns-2)
+take-climax-spec = tie.close (tie.spec climax-free-requires returns returns-2)

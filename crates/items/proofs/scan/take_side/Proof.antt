@@ -10,21 +10,13 @@ side-free-requires c κs = search needs
 side-of-requires : tie.Need-side-of-requires
 side-of-requires c κs = search needs
 
-at-requires : tie.Need-at-requires
-at-requires c κs = search needs
-
-at-requires-2 : tie.Need-at-requires-2
-at-requires-2 c κs = search needs
-
 returns : tie.Need-returns
 unfolding takeSide
-returns c = simp (div-one, c .at .ensures, c .before .side-of .ensures, ← c .before .before .before .side-free .ensures, c .before .before .if1 .taken)
+returns c = simp (div-one, c .side-of .ensures, ← c .before .before .side-free .ensures, c .before .if1 .taken)
 
 returns-2 : tie.Need-returns-2
 unfolding takeSide
-returns-2 c = simp (div-one, c .at2 .ensures, ← c .before .before .side-free .ensures, c .before .if1 .left)
+returns-2 c = simp (div-one, ← c .before .side-free .ensures, c .if1 .left)
 
 pub take-side-spec : {M : Type 1} → statement M
-take-side-spec =
-    tie.close
-    (tie.spec side-free-requires side-of-requires at-requires at-requires-2 returns returns-2)
+take-side-spec = tie.close (tie.spec side-free-requires side-of-requires returns returns-2)

@@ -10,21 +10,13 @@ sqi-free-requires c κs = search needs
 sqi-allowed-requires : tie.Need-sqi-allowed-requires
 sqi-allowed-requires c κs = search needs
 
-at-requires : tie.Need-at-requires
-at-requires c κs = search needs
-
-at-requires-2 : tie.Need-at-requires-2
-at-requires-2 c κs = search needs
-
 returns : tie.Need-returns
 unfolding takeSqi
-returns c = simp (div-one, c .at .ensures, ← c .before .before .sqi-allowed .ensures, ← c .before .before .before .sqi-free .ensures, c .before .if1 .taken)
+returns c = simp (div-one, ← c .before .sqi-allowed .ensures, ← c .before .before .sqi-free .ensures, c .if1 .taken)
 
 returns-2 : tie.Need-returns-2
 unfolding takeSqi
-returns-2 c = simp (div-one, c .at2 .ensures, ← c .before .before .sqi-allowed .ensures, ← c .before .before .before .sqi-free .ensures, c .before .if1 .left)
+returns-2 c = simp (div-one, ← c .before .sqi-allowed .ensures, ← c .before .before .sqi-free .ensures, c .if1 .left)
 
 pub take-sqi-spec : {M : Type 1} → statement M
-take-sqi-spec =
-    tie.close
-    (tie.spec sqi-free-requires sqi-allowed-requires at-requires at-requires-2 returns returns-2)
+take-sqi-spec = tie.close (tie.spec sqi-free-requires sqi-allowed-requires returns returns-2)

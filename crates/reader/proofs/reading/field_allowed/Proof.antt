@@ -1,5 +1,5 @@
 use Rattle.packet.specs.Packet.{fieldAllowed}
-use Rattle.items.proofs.Taken.{and-true}
+use Rattle.base.proofs.Truths.{and-true}
 use borrow.Author.Needs.{needs}
 use Rattle.reader.proofs.reading.field_allowed.Statement.{statement}
 use Rattle.reader.proofs.reading.field_allowed.Tie as tie

@@ -1,3 +1,4 @@
+use Rattle.writer.proofs.Words.{rising-length}
 use borrow.Author.Needs.{needs}
 use Rattle.writer.proofs.plain.fewest_words.Statement.{statement}
 use Rattle.writer.proofs.plain.fewest_words.Tie as tie
@@ -18,7 +19,7 @@ add-result-2 : tie.Need-add-result-2
 add-result-2 c = search needs
 
 returns : tie.Need-returns
-returns c = search needs
+returns c = rw (rising-length (c .before .args .k)) (search needs)
 
 pub fewest-words-spec : {M : Type 1} → statement M
 fewest-words-spec =

@@ -1,0 +1,294 @@
+-- A packet with a type 4 item, and the same packet without it: both are laid out of the same parts but for items that keep the same.
+use Prim.Native.Nat.{ℕ, suc, _+_, _*_, _/_, _≤_, _<_}
+use mathlib.Core.Path.{_≡_, refl, ap, ap₂, sym, subst, _∙_}
+use mathlib.Core.Bool.{Bool, true, false, cond, not, _&&_, _||_}
+use mathlib.Core.List.{List, [], _∷_, _++_}
+use native.Mathlib.Omega.{arith}
+use lib.Dec.{eqb}
+use lib.ListN.{length, length-append}
+use borrow.Author.Tests.{eqb-true, eqb-false, ne-eqb, not-true}
+use Rattle.base.specs.Bytes.{Bytes}
+use Rattle.base.proofs.Truths.{and-left, and-right, or-left, or-right}
+use Rattle.packet.specs.Packet.{csrcCount, payloadType, extensionType, wordCount, payload, fieldAllowed, payloadAllowed}
+use Rattle.packet.specs.Items.{Item, ddcType, itemAllowed, allAllowed, hasType, noTypeTwice, sqiAmong, climaxAmong, sideAmong, kept}
+use Rattle.packet.specs.Refusals.{Case, NoCase, Answer, accepted, refused, judged, mapped}
+use Rattle.packet.proofs.Judged.{judged-both}
+use Rattle.reader.specs.Reading.{messageOf, itemsHere, read, readerRefusals, asTx}
+use Rattle.reader.proofs.Passed.{Passed, accepted-passed}
+use Rattle.writer.specs.Writing.{itemBytes, fieldOf}
+use Rattle.record.specs.Record.{seatOf, settled}
+use Rattle.hearing.specs.Hearing.{messageIn, packetRefusals, messageRefusals, heardBench, isSent, hearing, packetSaid, audioIn}
+use Rattle.hearing.proofs.AudioSent.{sound-is}
+use Rattle.bench.specs.Step.{packet, Said, Outcome, outcome, told, step}
+use Rattle.packet.specs.declared.message.Direction.{Direction}
+use Rattle.packet.specs.declared.message.Direction.the-variants.{Tx, Rx}
+use Rattle.packet.specs.declared.message.Message.{Message}
+use Rattle.packet.specs.declared.message.Items.{Items}
+use Rattle.record.specs.declared.whole.Bench.{Bench}
+use Rattle.hearing.specs.declared.hearing.Hearing.{Hearing}
+use Rattle.demands.specs.Inversion.{laid, csrcWords}
+use Rattle.demands.specs.RoundTrip.{Narrow}
+use Rattle.demands.specs.Rewrite.{WithoutDdc}
+use Rattle.demands.specs.SteppedOver.{relaid, Holds, others, ddc, Alike, SteppedOver}
+use Rattle.demands.proofs.Demand2.Inversion.{laid-out, csrc-long, room-here}
+use Rattle.demands.proofs.Demand2.ItemsBack.{Writes, AllWrite}
+use Rattle.demands.proofs.Demand2.AllowedItems.{all-write, here-once}
+use Rattle.demands.proofs.Demand2.ReadBack.{casesLeft}
+use Rattle.demands.proofs.Demand2.Written.{field-written, allowed-alike, writable-is}
+use Rattle.demands.proofs.Demand2.Laid.{Fit}
+use Rattle.demands.proofs.Demand2.Laid as of-laid
+use Rattle.demands.proofs.Demand2.Accepted.{items-stand, numbers-fit, message-writable}
+
+-- ---- the items without those of type 4
+
+or-true : (a : Bool) → a || true ≡ true
+or-true true = refl
+or-true false = refl
+
+ddc-allowed : (d : Direction) (i : Item) → eqb (i .type) 4 ≡ true → itemAllowed d i ≡ true
+unfolding itemAllowed
+ddc-allowed d i e = simp (e, or-true)
+
+others-allowed : (d : Direction) (is : List Item) → allAllowed d (others is) ≡ allAllowed d is
+unfolding others allAllowed
+others-allowed d [] = refl
+others-allowed d (i ∷ is) = by-type (eqb (i .type) 4) refl (others-allowed d is)
+  where
+    by-type : (t : Bool) → eqb (i .type) 4 ≡ t → allAllowed d (others is) ≡ allAllowed d is
+        → allAllowed d (cond t (others is) (i ∷ others is)) ≡ itemAllowed d i && allAllowed d is
+    by-type true e h = h ∙ sym (ap (λ (a : Bool). a && allAllowed d is) (ddc-allowed d i e))
+    by-type false e h = ap (λ (a : Bool). itemAllowed d i && a) h
+
+-- no item that is kept is lost
+others-kept : (is : List Item) → kept (others is) ≡ kept is
+unfolding others kept sqiAmong climaxAmong sideAmong
+others-kept [] = refl
+others-kept (i ∷ is) = by-type (eqb (i .type) 4) refl (others-kept is)
+  where
+    by-type : (t : Bool) → eqb (i .type) 4 ≡ t → kept (others is) ≡ kept is → kept (cond t (others is) (i ∷ others is)) ≡ kept (i ∷ is)
+    by-type true e h = h ∙ (simp (eqb-true (i .type) 4 e))
+    by-type false e h =
+        let q : sqiAmong (others is) ≡ sqiAmong is = ap (λ (k : Items). k .sqi) h in
+        let c : climaxAmong (others is) ≡ climaxAmong is = ap (λ (k : Items). k .climax) h in
+        let s : sideAmong (others is) ≡ sideAmong is = ap (λ (k : Items). k .side) h in
+        simp (q, c, s)
+
+others-none : (is : List Item) → hasType ddcType (others is) ≡ false
+unfolding others hasType
+others-none [] = refl
+others-none (i ∷ is) = by-type (eqb (i .type) 4) refl (others-none is)
+  where
+    by-type : (t : Bool) → eqb (i .type) 4 ≡ t → hasType 4 (others is) ≡ false → hasType 4 (cond t (others is) (i ∷ others is)) ≡ false
+    by-type true e h = h
+    by-type false e h = simp (e, h)
+
+-- nor one more made of them
+none-more : (t : ℕ) (is : List Item) → hasType t is ≡ false → hasType t (others is) ≡ false
+unfolding others hasType
+none-more t [] e = refl
+none-more t (i ∷ is) e = by-type (eqb (i .type) 4) (none-more t is (or-right (eqb (i .type) t) _ e))
+  where
+    by-type : (c : Bool) → hasType t (others is) ≡ false → hasType t (cond c (others is) (i ∷ others is)) ≡ false
+    by-type true h = h
+    by-type false h = simp (or-left (eqb (i .type) t) _ e, h)
+
+others-once : (is : List Item) → noTypeTwice is ≡ true → noTypeTwice (others is) ≡ true
+unfolding others noTypeTwice
+others-once [] e = refl
+others-once (i ∷ is) e = by-type (eqb (i .type) 4) (others-once is (and-right (not (hasType (i .type) is)) _ e))
+  where
+    alone : hasType (i .type) is ≡ false
+    alone = not-true (hasType (i .type) is) (and-left (not (hasType (i .type) is)) _ e)
+
+    by-type : (c : Bool) → noTypeTwice (others is) ≡ true → noTypeTwice (cond c (others is) (i ∷ others is)) ≡ true
+    by-type true h = h
+    by-type false h = simp (none-more (i .type) is alone, h)
+
+others-write : (is : List Item) → AllWrite is → AllWrite (others is)
+unfolding others
+others-write [] w = tt
+others-write (i ∷ is) w = by-type (eqb (i .type) 4) (others-write is (w .1))
+  where
+    by-type : (c : Bool) → AllWrite (others is) → AllWrite (cond c (others is) (i ∷ others is))
+    by-type true h = h
+    by-type false h = (w .0, h)
+
+others-shorter : (is : List Item) → length (itemBytes (others is)) ≤ length (itemBytes is)
+unfolding others itemBytes
+others-shorter [] = omega arith
+others-shorter (i ∷ is) = by-type (eqb (i .type) 4) (others-shorter is)
+  where
+    by-type : (c : Bool) → length (itemBytes (others is)) ≤ length (itemBytes is) → length (itemBytes (cond c (others is) (i ∷ others is))) ≤ length (itemBytes (i ∷ is))
+    by-type true h = omega (arith, length-append (i .value) (itemBytes is))
+    by-type false h = omega (arith, length-append (i .value) (itemBytes is), length-append (i .value) (itemBytes (others is)))
+
+-- ---- one put in
+
+others-same : (is : List Item) → hasType ddcType is ≡ false → others is ≡ is
+unfolding others hasType
+others-same [] e = refl
+others-same (i ∷ is) e = simp (or-left (eqb (i .type) 4) _ e, others-same is (or-right (eqb (i .type) 4) _ e))
+
+module _ (after : List Item) (value : List ℕ) where
+  others-put : (before : List Item) → hasType ddcType (before ++ after) ≡ false → others (before ++ ddc value ∷ after) ≡ before ++ after
+  unfolding others hasType
+  others-put [] e = others-same after e
+  others-put (i ∷ before) e = simp (or-left (eqb (i .type) 4) _ e, others-put before (or-right (eqb (i .type) 4) _ e))
+
+  put-other-type : (t : ℕ) (before : List Item) → eqb t 4 ≡ false → hasType t (before ++ ddc value ∷ after) ≡ hasType t (before ++ after)
+  unfolding hasType
+  put-other-type t [] e = simp (ne-eqb 4 t (λ z. eqb-false t 4 e (sym z)))
+  put-other-type t (i ∷ before) e = ap (λ (b : Bool). eqb (i .type) t || b) (put-other-type t before e)
+
+  put-once : (before : List Item) → hasType ddcType (before ++ after) ≡ false → noTypeTwice (before ++ after) ≡ true → noTypeTwice (before ++ ddc value ∷ after) ≡ true
+  unfolding hasType noTypeTwice
+  put-once [] e o = simp (e, o)
+  put-once (i ∷ before) e o =
+      let front = and-left (not (hasType (i .type) (before ++ after))) _ o in
+      let rest = put-once before (or-right (eqb (i .type) 4) _ e) (and-right (not (hasType (i .type) (before ++ after))) _ o) in
+      simp (put-other-type (i .type) before (or-left (eqb (i .type) 4) _ e), front, rest)
+
+  put-write : (before : List Item) → length value ≤ 15 → AllWrite (before ++ after) → AllWrite (before ++ ddc value ∷ after)
+  put-write [] s w = (record { some = omega arith; type = omega arith; short = omega arith }, w)
+  put-write (i ∷ before) s w = (w .0, put-write before s (w .1))
+
+-- ---- two packets of the same parts, whose items are kept alike
+
+module _ (csrc : List ℕ) (kind ext : ℕ) (m : Message) (sound : List ℕ) (words other : ℕ) (is js : List Item)
+    (f : Fit csrc kind ext words m is) (g : Fit csrc kind ext other m js) (keeps : kept is ≡ m .items) (kept-alike : kept js ≡ kept is)
+    (allowed-in : (d : Direction) → allAllowed d js ≡ allAllowed d is) (once : noTypeTwice js ≡ noTypeTwice is) where
+  abbrev p : List ℕ
+  p = laid csrc kind ext words m is sound
+
+  abbrev q : List ℕ
+  q = laid csrc kind ext other m js sound
+
+  refusals-alike : (d : Direction) (asked : ℕ) → readerRefusals d asked q ≡ readerRefusals d asked p
+  refusals-alike d asked =
+      let field : fieldAllowed d (fieldOf m js) ≡ fieldAllowed d (fieldOf m is) =
+      allowed-alike d (fieldOf m js) (fieldOf m is) m js is (field-written m js (f .ptt) (f .id)) (field-written m is (f .ptt) (f .id)) in
+      of-laid.cases csrc kind ext other m js sound g d asked
+      ∙ ap₂ (λ (a b : Bool). casesLeft asked kind ext a b (payloadAllowed kind (length sound))) field (ap₂ (λ (a b : Bool). a && b) (allowed-in d) once)
+      ∙ sym (of-laid.cases csrc kind ext words m is sound f d asked)
+
+  message-alike : messageOf q ≡ messageOf p
+  message-alike =
+      of-laid.message-back csrc kind ext other m js sound g (kept-alike ∙ keeps) ∙ sym (of-laid.message-back csrc kind ext words m is sound f keeps)
+
+  sound-alike : payload q ≡ payload p
+  sound-alike = of-laid.sound-back csrc kind ext other m js sound g ∙ sym (of-laid.sound-back csrc kind ext words m is sound f)
+
+  module _ (b : Bench) (n : ℕ) where
+    abbrev refusals : List ℕ → List Case
+    refusals l = packetRefusals (b .setup) n (seatOf (b .seats) n) l
+
+    packet-refusals : refusals q ≡ refusals p
+    unfolding packetRefusals
+    packet-refusals = simp (refusals-alike Tx (b .setup .ext), message-alike)
+
+    -- the audio lies at another place where there are fewer words, and is the same
+    audio-alike : NoCase (refusals p) → audioIn (packetSaid b n q) q ≡ audioIn (packetSaid b n p) p
+    audio-alike none =
+        sound-is b n q (subst NoCase (sym packet-refusals) none)
+        ∙ (simp (message-alike, sound-alike))
+        ∙ sym (sound-is b n p none)
+
+    said-alike : NoCase (refusals p) → told (packetSaid b n q) q (hearing b n q) ≡ told (packetSaid b n p) p (hearing b n p)
+    unfolding hearing
+    said-alike none = simp (message-alike, audio-alike none)
+
+    bench-alike : heardBench b n (messageIn q) ≡ heardBench b n (messageIn p)
+    bench-alike = ap (λ (s : Message). heardBench b n (asTx s)) message-alike
+
+    abbrev after : List ℕ → Answer Hearing → Outcome
+    after l a = outcome a (told (packetSaid b n l) l) b (heardBench b n (messageIn l))
+
+    heard-alike : step b (packet n q) ≡ step b (packet n p)
+    unfolding step packetSaid
+    heard-alike =
+        ap (λ (cs : List Case). after q (judged cs (hearing b n q))) packet-refusals
+        ∙ judged-both (λ x y. after q x ≡ after p y) (refusals p) (hearing b n q) (hearing b n p)
+        (λ k c. refl) (λ none. ap₂ (λ (s : Said) (r : Bench). record { answer = accepted s; bench = r }) (said-alike none) bench-alike)
+
+  pub alike : Alike p q
+  unfolding read
+  alike =
+      record {
+        reads = λ d asked. simp (refusals-alike d asked, message-alike);
+        audio = sound-alike;
+        heard = heard-alike;
+      }
+
+-- ---- an accepted packet, with other items
+
+module _ (d : Direction) (ext : ℕ) (p : List ℕ) (small : Bytes p) (h : Passed d ext p) where
+  abbrev is : List Item
+  is = itemsHere p
+
+  abbrev m : Message
+  m = messageOf p
+
+  writes-here : AllWrite is
+  writes-here = all-write d is (items-stand d ext p small h)
+
+  once-here : noTypeTwice is ≡ true
+  unfolding itemsHere
+  once-here = here-once d _ _ (h .items-allowed)
+
+  fits : (words : ℕ) (js : List Item) → AllWrite js → Holds words js → Fit (csrcWords p) (payloadType p) (extensionType p) words m js
+  fits words js w room =
+      let fine = writable-is m (length (payload p)) (message-writable d ext p small h) in
+      let long = csrc-long d ext p small h in
+      record {
+        whole = omega arith;
+        few = omega arith;
+        kind-narrow = omega arith;
+        narrow = subst (λ (e : ℕ). Narrow e m) (sym (h .type-is)) (numbers-fit d ext p small h);
+        ptt = fine .ptt;
+        id = fine .id;
+        writes = w;
+        room = room;
+      }
+
+  own-room : Holds (wordCount p) is
+  own-room = (room-here d ext p small h, h .few-words)
+
+  itself : relaid (wordCount p) is p ≡ p
+  unfolding relaid
+  itself = ap (λ (e : ℕ). laid (csrcWords p) (payloadType p) e (wordCount p) m is (payload p)) (h .type-is) ∙ sym (laid-out d ext p small h)
+
+  with-items : (words : ℕ) (js : List Item) → AllWrite js → Holds words js → kept js ≡ kept is → ((d : Direction) → allAllowed d js ≡ allAllowed d is)
+      → noTypeTwice js ≡ true → Alike p (relaid words js p)
+  unfolding relaid messageOf
+  with-items words js w room keeps allowed once =
+      subst (λ (l : List ℕ). Alike l (relaid words js p)) itself
+      (alike (csrcWords p) (payloadType p) (extensionType p) m (payload p) (wordCount p) words is js
+      (fits (wordCount p) is writes-here own-room) (fits words js w room) refl keeps allowed (once ∙ sym once-here))
+
+  without : (words : ℕ) → Holds words (others is) → Alike p (relaid words (others is) p) × WithoutDdc (relaid words (others is) p)
+  unfolding relaid
+  without words room = (
+    with-items words (others is) (others-write is writes-here) room (others-kept is) (λ e. others-allowed e is) (others-once is once-here),
+    ap (hasType ddcType) (of-laid.items-here (csrcWords p) (payloadType p) (extensionType p) words m (others is) (payload p)
+        (fits words (others is) (others-write is writes-here) room)) ∙ others-none is,
+  )
+
+  with-one : (words : ℕ) (before after : List Item) (value : List ℕ) → WithoutDdc p → is ≡ before ++ after → length value ≤ 15
+      → Holds words (before ++ ddc value ∷ after) → Alike p (relaid words (before ++ ddc value ∷ after) p)
+  with-one words before after value none e short room =
+      let gone : others (before ++ ddc value ∷ after) ≡ is = others-put after value before (sym (ap (hasType ddcType) e) ∙ none) ∙ sym e in
+      with-items words (before ++ ddc value ∷ after) (put-write after value before short (subst AllWrite e writes-here)) room
+      (sym (others-kept (before ++ ddc value ∷ after)) ∙ ap kept gone)
+      (λ t. sym (others-allowed t (before ++ ddc value ∷ after)) ∙ ap (allAllowed t) gone)
+      (put-once after value before (sym (ap (hasType ddcType) e) ∙ none) (sym (ap noTypeTwice e) ∙ once-here))
+
+pub stepped-over : SteppedOver
+stepped-over =
+    record {
+      taken-out = λ d ext p m words small e room. without d ext p small (accepted-passed d ext p m e .0) words room;
+      own-words = λ d ext p m small e.
+          let room = own-room d ext p small (accepted-passed d ext p m e .0) in
+          (omega (arith, room .0, others-shorter (itemsHere p)), room .1);
+      put-in = λ d ext p m words before after value small e none is short room.
+          with-one d ext p small (accepted-passed d ext p m e .0) words before after value none is short room;
+    }
