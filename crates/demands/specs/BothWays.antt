@@ -55,3 +55,10 @@ pub record BothWays : Type 1 where
   pub read-rx : Gives reader.read_rx.Reads.Learnt (λ k (ext, (p, end)) r e.
       (m : Rx) → r ≡ rx.Message m → Bytes (now p) → Plain (now p) → WithoutDdc (now p) → (buffer : List ℕ) → length (now p) ≤ length buffer
       → WritesRx ext m (payload (now p)) buffer (length (now p)) (now p ++ drop (length (now p)) buffer))
+  -- and of no other packet: where a writer has written a packet's own bytes from what was read of it, the packet is such a one
+  pub only-tx : Gives reader.read_tx.Reads.Learnt (λ k (ext, (p, end)) r e. (m : Tx) → r ≡ tx.Message m → Bytes (now p)
+      → Gives writer.write_tx.Reads.Learnt (λ j (type, (message, (audio, (out, end)))) w f. type ≡ ext → message ≡ m → now audio ≡ payload (now p)
+      → (long : ℕ) → w ≡ written.Length long → take long (now (f .1 .1 .1 .0)) ≡ now p → Plain (now p) × WithoutDdc (now p)))
+  pub only-rx : Gives reader.read_rx.Reads.Learnt (λ k (ext, (p, end)) r e. (m : Rx) → r ≡ rx.Message m → Bytes (now p)
+      → Gives writer.write_rx.Reads.Learnt (λ j (type, (message, (audio, (out, end)))) w f. type ≡ ext → message ≡ m → now audio ≡ payload (now p)
+      → (long : ℕ) → w ≡ written.Length long → take long (now (f .1 .1 .1 .0)) ≡ now p → Plain (now p) × WithoutDdc (now p)))

@@ -43,13 +43,20 @@ pub record Alike (p q : List ℕ) : Type 0 where
   -- all that the bench answers (missing packets, reply now, the side in use, the audio to send, or a refusal), and the bench after it
   pub heard : (b : Bench) (n : ℕ) → step b (packet n q) ≡ step b (packet n p)
 
+-- A packet that some reader accepts.
+pub record IsRead (p : List ℕ) : Type 0 where
+  pub direction : Direction
+  pub ext : ℕ
+  pub message : Message
+  pub bytes : Bytes p
+  pub accepts : read direction ext p ≡ accepted message
+
 pub record SteppedOver : Type 0 where
   -- with its type 4 item taken out, in any number of words that holds the others,
-  pub taken-out : (d : Direction) (ext : ℕ) (p : List ℕ) (m : Message) (words : ℕ) → Bytes p → read d ext p ≡ accepted m
-      → Holds words (others (itemsHere p)) → Alike p (relaid words (others (itemsHere p)) p) × WithoutDdc (relaid words (others (itemsHere p)) p)
+  pub taken-out : (p : List ℕ) (words : ℕ) → IsRead p → Holds words (others (itemsHere p))
+      → Alike p (relaid words (others (itemsHere p)) p) × WithoutDdc (relaid words (others (itemsHere p)) p)
   -- as the packet's own number of words does;
-  pub own-words : (d : Direction) (ext : ℕ) (p : List ℕ) (m : Message) → Bytes p → read d ext p ≡ accepted m → Holds (wordCount p) (others (itemsHere p))
+  pub own-words : (p : List ℕ) → IsRead p → Holds (wordCount p) (others (itemsHere p))
   -- and with one of any length 0 to 15 put in, anywhere among the items of a packet that has none
-  pub put-in : (d : Direction) (ext : ℕ) (p : List ℕ) (m : Message) (words : ℕ) (before after : List Item) (value : List ℕ)
-      → Bytes p → read d ext p ≡ accepted m → WithoutDdc p → itemsHere p ≡ before ++ after → length value ≤ 15
-      → Holds words (before ++ ddc value ∷ after) → Alike p (relaid words (before ++ ddc value ∷ after) p)
+  pub put-in : (p : List ℕ) (words : ℕ) (before after : List Item) (value : List ℕ) → IsRead p → WithoutDdc p → itemsHere p ≡ before ++ after
+      → length value ≤ 15 → Holds words (before ++ ddc value ∷ after) → Alike p (relaid words (before ++ ddc value ∷ after) p)

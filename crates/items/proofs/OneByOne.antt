@@ -4,12 +4,12 @@ use mathlib.Core.Path.{_≡_, refl, ap, sym, _∙_, subst}
 use mathlib.Core.Bool.{Bool, true, false, cond, not, _&&_, _||_}
 use mathlib.Core.List.{List, [], _∷_, foldl}
 use lib.Dec.{eqb}
-use lib.ListN.{length, take}
+use lib.ListN.{take}
 use Rattle.base.proofs.Truths.{push, either-way, and-none}
 use borrow.Author.Tests.{eqb-true}
-use Rattle.packet.specs.Items.{Item, Found, found, broken, behind, allZero, itemType, itemLength, itemsBehind, ddcType, sqiQuality, sqiMethod, sqiAllowed, climaxAllowed, sideAllowed, oneByte, valueByte, inTx, inRx, itemAllowed}
+use Rattle.packet.specs.Items.{Item, Found, found, broken, behind, allZero, itemType, itemLength, itemsBehind, sqiQuality, sqiMethod, sqiAllowed, climaxAllowed, sideAllowed, oneByte, valueByte, inTx, inRx, itemAllowed}
 use Rattle.packet.proofs.ItemLaws.{value-whole}
-use Rattle.items.specs.Scan.{sqiFree, climaxFree, sideFree, scanAt, withSqi, withClimax, withSide, takeSqi, takeClimax, takeSide, takeItem, behindValue, past, begun, behindItem, met, stepOf, endOf}
+use Rattle.items.specs.Scan.{sqiFree, climaxFree, sideFree, scanAt, withSqi, withClimax, withSide, takeSqi, takeClimax, takeSide, takeItem, behindValue, past, begun, met, stepOf, endOf}
 use Rattle.packet.specs.declared.message.Direction.{Direction}
 use Rattle.packet.specs.declared.message.Direction.the-variants.{Tx, Rx}
 use Rattle.packet.specs.declared.message.SqiItem.{SqiItem}
@@ -19,7 +19,7 @@ use Rattle.packet.specs.declared.message.ClimaxItem.the-variants as climax
 use Rattle.packet.specs.declared.message.SideItem.{SideItem}
 use Rattle.packet.specs.declared.message.SideItem.the-variants as side
 use Rattle.packet.specs.declared.message.Items.{Items}
-use Rattle.items.specs.declared.scan.Mode.the-variants.{Tail, Next, Value, Skip, Broken}
+use Rattle.items.specs.declared.scan.Mode.the-variants.{Tail, Next, Value, Broken}
 use Rattle.items.specs.declared.scan.Scan.{Scan}
 use Rattle.items.specs.declared.scan.ItemsRead.{ItemsRead}
 use Rattle.items.specs.declared.scan.ItemsRead.the-variants as read
@@ -190,7 +190,20 @@ module _ (d : Direction) (g : Bool) (k : Items) where
   one-byte t v rest five e = after-value (sideFree (k .side) && sideAllowed v) (withSide k v) rest ∙ side-fits (k .side) (sideAllowed v) _ _
   one-byte t v rest (other p q r s) e = simp (p, q, r, s) (broken-stays d g k rest)
 
-  -- an item that is kept
+  -- an item of length 1 that is kept
+  one-kept : (t v : ℕ) (rest : List ℕ) → Rest d (v ∷ rest) → eqb t 4 ≡ false → led d (behindValue g k (took t v)) rest ≡ from t 1 (v ∷ rest)
+  unfolding itemsBehind
+  one-kept t v rest ih e =
+      let i : Item = item t (v ∷ []) in
+      one-byte t v rest (kind t) e
+      ∙ ap (λ (r : ItemsRead). cond (fits d g k i) r read.Broken) (ih 1 g (plus k i))
+      ∙ ap (λ (h : Bool). cond (fits d g k i) (outcome d (h || g) (plus k i) (itemsBehind 0 rest)) read.Broken) (sym e)
+      ∙ sym (outcome-behind d g k i (itemsBehind 0 rest))
+
+  -- of any length
+  abbrev Valued : (t v : ℕ) (rest : List ℕ) (l : ℕ) → Type 0
+  Valued t v rest l = led d (behindValue g k (cond (not (eqb l 1)) read.Broken (took t v))) rest ≡ from t l (v ∷ rest)
+
   value-is : (b : ℕ) (bs : List ℕ) → Rest d bs → eqb (itemType b) 4 ≡ false → led d (scanAt (Value b) g k) bs ≡ from (itemType b) (itemLength b) bs
   unfolding takeItem itemsBehind
   value-is b [] ih e = nothing (itemLength b)
@@ -200,16 +213,8 @@ module _ (d : Direction) (g : Bool) (k : Items) where
       nothing (suc l) = refl
   value-is b (v ∷ rest) ih e = by-length (itemLength b) (eqb (itemLength b) 1) refl
     where
-      t : ℕ
-      t = itemType b
-
-      by-length : (l : ℕ) (c : Bool) → eqb l 1 ≡ c → led d (behindValue g k (cond (not (eqb l 1)) read.Broken (took (itemType b) v))) rest ≡ from (itemType b) l (v ∷ rest)
-      by-length l true q =
-          subst (λ (n : ℕ). led d (behindValue g k (cond (not (eqb n 1)) read.Broken (took (itemType b) v))) rest ≡ from (itemType b) n (v ∷ rest)) (sym (eqb-true l 1 q))
-          (one-byte (itemType b) v rest (kind (itemType b)) e
-          ∙ ap (λ (r : ItemsRead). cond (fits d g k (item (itemType b) (v ∷ []))) r read.Broken) (ih 1 g (plus k (item (itemType b) (v ∷ []))))
-          ∙ ap (λ (h : Bool). cond (fits d g k (item (itemType b) (v ∷ []))) (outcome d (h || g) (plus k (item (itemType b) (v ∷ []))) (itemsBehind 0 rest)) read.Broken) (sym e)
-          ∙ sym (outcome-behind d g k (item (itemType b) (v ∷ [])) (itemsBehind 0 rest)))
+      by-length : (l : ℕ) (c : Bool) → eqb l 1 ≡ c → Valued (itemType b) v rest l
+      by-length l true q = subst (Valued (itemType b) v rest) (sym (eqb-true l 1 q)) (one-kept (itemType b) v rest ih e)
       by-length l false q = simp q (broken-stays d g k rest ∙ other-length (itemType b) l (v ∷ rest) e q)
 
   -- one that is stepped over
@@ -222,11 +227,14 @@ module _ (d : Direction) (g : Bool) (k : Items) where
       by-met false = ih l true k ∙ sym (outcome-behind d false k (item 4 (take l bs)) (itemsBehind l bs))
 
   begun-is : (b : ℕ) (bs : List ℕ) → Rest d bs → led d (scanAt (begun g b) (met g b) k) bs ≡ from (itemType b) (itemLength b) bs
-  begun-is b bs ih = by-type (itemType b) (eqb (itemType b) 4) refl
+  begun-is b bs ih = by-type (eqb (itemType b) 4) refl
     where
-      by-type : (t : ℕ) (c : Bool) → eqb (itemType b) 4 ≡ c → led d (scanAt (cond c (cond g Broken (past (itemLength b))) (Value b)) (c || g) k) bs ≡ from (itemType b) (itemLength b) bs
-      by-type t true e = subst (λ (n : ℕ). led d (scanAt (cond g Broken (past (itemLength b))) true k) bs ≡ from n (itemLength b) bs) (sym (eqb-true (itemType b) 4 e)) (ddc-is (itemLength b) bs ih)
-      by-type t false e = value-is b bs ih e
+      by-type : (c : Bool) → eqb (itemType b) 4 ≡ c
+          → led d (scanAt (cond c (cond g Broken (past (itemLength b))) (Value b)) (c || g) k) bs ≡ from (itemType b) (itemLength b) bs
+      by-type true e =
+          subst (λ (t : ℕ). led d (scanAt (cond g Broken (past (itemLength b))) true k) bs ≡ from t (itemLength b) bs) (sym (eqb-true (itemType b) 4 e))
+          (ddc-is (itemLength b) bs ih)
+      by-type false e = value-is b bs ih e
 
 pub scan-finds : (d : Direction) (bs : List ℕ) → Rest d bs
 unfolding itemsBehind

@@ -41,11 +41,12 @@ itemType head = bits 8 0 4 head
 abbrev pub itemLength : ℕ → ℕ
 itemLength head = bits 8 4 4 head
 
--- The items, where so many bytes of a value come first. 11, since 02: "an item of any type whose value runs past the words".
--- ".. a zero byte where an item would begin ends them, and all bytes after it are zero."
+-- The items, where so many bytes of a value come first.
 unfoldable pub itemsBehind : (value : ℕ) → List ℕ → Found
+-- 11, since 02: ".. an item of any type whose value runs past the words"
 itemsBehind (suc n) [] = broken
 itemsBehind (suc n) (b ∷ rest) = itemsBehind n rest
+-- ".. a zero byte where an item would begin ends them, and all bytes after it are zero."
 itemsBehind zero [] = found []
 itemsBehind zero (head ∷ rest) =
     cond (eqb head 0) (cond (allZero rest) (found []) broken)

@@ -66,4 +66,10 @@ both-ways = record {
   read-rx = λ k a r e h m is small plain none buffer room.
       let again = rewrite-rx (a .0) (now (a .1 .0)) m small (sym h ∙ ap rxAnswer is) .stands plain none buffer room in
       writes-rx _ _ _ _ _ _ (again .0) (again .1);
+  only-tx = λ k a r e h m is small j b w f g t n s long wrote same.
+      let there = front (b .0) (fromTx (b .1 .0)) (now (b .1 .1 .0)) (now (b .1 .1 .1 .0)) (now (f .1 .1 .1 .0)) w long (g .0) (g .1) wrote in
+      rewrite-tx (a .0) (now (a .1 .0)) m small (sym h ∙ ap txAnswer is) .same .0 (sym (rw (t, n, s) at (there .1)) ∙ same);
+  only-rx = λ k a r e h m is small j b w f g t n s long wrote same.
+      let there = front (b .0) (fromRx (b .1 .0)) (now (b .1 .1 .0)) (now (b .1 .1 .1 .0)) (now (f .1 .1 .1 .0)) w long (g .0) (g .1) wrote in
+      rewrite-rx (a .0) (now (a .1 .0)) m small (sym h ∙ ap rxAnswer is) .same .0 (sym (rw (t, n, s) at (there .1)) ∙ same);
 }

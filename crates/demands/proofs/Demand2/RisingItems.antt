@@ -1,5 +1,5 @@
 -- The items of a message, written by rising type: they fit their bytes, they may stand there, and the message keeps them.
-use Prim.Native.Nat.{ℕ, _+_, _*_, _/_, _%_, _<_, _≤_}
+use Prim.Native.Nat.{ℕ, _+_, _*_, _/_, _%_, _≤_}
 use mathlib.Core.Path.{_≡_, refl}
 use mathlib.Core.Bool.{Bool, true, false, cond}
 use mathlib.Core.List.{List, _++_}
@@ -20,9 +20,9 @@ use Rattle.base.proofs.Truths.{and-left, and-right}
 use Rattle.demands.specs.Plain.{Rising}
 use Rattle.demands.proofs.Demand2.ItemsBack.{AllWrite}
 
--- no type twice, by rising type
+-- no type twice, none of type 4, by rising type
 abbrev Orderly : List Item → Type 0
-Orderly is = (noTypeTwice is ≡ true) × Rising is
+Orderly is = (noTypeTwice is ≡ true) × (hasType ddcType is ≡ false) × Rising is
 
 -- ---- the value bytes
 
@@ -94,34 +94,18 @@ sqi-kept (sqi.Is q m) c e h k = simp (sqi-value q m h .0, sqi-value q m h .1, cl
 
 orderly : (s : SqiItem) (c : ClimaxItem) (e : SideItem) → Orderly (sqiListed s ++ climaxListed c ++ sideListed e)
 unfolding noTypeTwice hasType
-orderly sqi.Absent climax.Absent side.Absent = (refl, tt)
-orderly sqi.Absent climax.Absent side.Main = (refl, tt)
-orderly sqi.Absent climax.Absent side.Standby = (refl, tt)
-orderly sqi.Absent (climax.Is v) side.Absent = (refl, tt)
-orderly sqi.Absent (climax.Is v) side.Main = (refl, omega arith)
-orderly sqi.Absent (climax.Is v) side.Standby = (refl, omega arith)
-orderly (sqi.Is q m) climax.Absent side.Absent = (refl, tt)
-orderly (sqi.Is q m) climax.Absent side.Main = (refl, omega arith)
-orderly (sqi.Is q m) climax.Absent side.Standby = (refl, omega arith)
-orderly (sqi.Is q m) (climax.Is v) side.Absent = (refl, omega arith)
-orderly (sqi.Is q m) (climax.Is v) side.Main = (refl, omega arith)
-orderly (sqi.Is q m) (climax.Is v) side.Standby = (refl, omega arith)
-
--- writers never write type 4
-none-written : (s : SqiItem) (c : ClimaxItem) (e : SideItem) → hasType ddcType (sqiListed s ++ climaxListed c ++ sideListed e) ≡ false
-unfolding hasType
-none-written sqi.Absent climax.Absent side.Absent = refl
-none-written sqi.Absent climax.Absent side.Main = refl
-none-written sqi.Absent climax.Absent side.Standby = refl
-none-written sqi.Absent (climax.Is v) side.Absent = refl
-none-written sqi.Absent (climax.Is v) side.Main = refl
-none-written sqi.Absent (climax.Is v) side.Standby = refl
-none-written (sqi.Is q m) climax.Absent side.Absent = refl
-none-written (sqi.Is q m) climax.Absent side.Main = refl
-none-written (sqi.Is q m) climax.Absent side.Standby = refl
-none-written (sqi.Is q m) (climax.Is v) side.Absent = refl
-none-written (sqi.Is q m) (climax.Is v) side.Main = refl
-none-written (sqi.Is q m) (climax.Is v) side.Standby = refl
+orderly sqi.Absent climax.Absent side.Absent = (refl, refl, tt)
+orderly sqi.Absent climax.Absent side.Main = (refl, refl, tt)
+orderly sqi.Absent climax.Absent side.Standby = (refl, refl, tt)
+orderly sqi.Absent (climax.Is v) side.Absent = (refl, refl, tt)
+orderly sqi.Absent (climax.Is v) side.Main = (refl, refl, omega arith)
+orderly sqi.Absent (climax.Is v) side.Standby = (refl, refl, omega arith)
+orderly (sqi.Is q m) climax.Absent side.Absent = (refl, refl, tt)
+orderly (sqi.Is q m) climax.Absent side.Main = (refl, refl, omega arith)
+orderly (sqi.Is q m) climax.Absent side.Standby = (refl, refl, omega arith)
+orderly (sqi.Is q m) (climax.Is v) side.Absent = (refl, refl, omega arith)
+orderly (sqi.Is q m) (climax.Is v) side.Main = (refl, refl, omega arith)
+orderly (sqi.Is q m) (climax.Is v) side.Standby = (refl, refl, omega arith)
 
 in-tx : (c : ClimaxItem) (e : SideItem) → climaxWritable c ≡ true → allAllowed Tx (climaxListed c ++ sideListed e) ≡ true
 unfolding allAllowed itemAllowed
@@ -157,11 +141,12 @@ rising-once k = orderly (k .sqi) (k .climax) (k .side) .0
 
 pub rising-rises : (k : Items) → Rising (risingItems k)
 unfolding risingItems
-rising-rises k = orderly (k .sqi) (k .climax) (k .side) .1
+rising-rises k = orderly (k .sqi) (k .climax) (k .side) .2
 
+-- writers never write type 4
 pub no-ddc : (k : Items) → hasType ddcType (risingItems k) ≡ false
 unfolding risingItems
-no-ddc k = none-written (k .sqi) (k .climax) (k .side)
+no-ddc k = orderly (k .sqi) (k .climax) (k .side) .1
 
 pub rising-in-tx : (k : Items) → k .sqi ≡ sqi.Absent → climaxWritable (k .climax) ≡ true → allAllowed Tx (risingItems k) ≡ true
 unfolding risingItems

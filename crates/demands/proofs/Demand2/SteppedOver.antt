@@ -1,5 +1,5 @@
 -- A packet with a type 4 item, and the same packet without it: both are laid out of the same parts but for items that keep the same.
-use Prim.Native.Nat.{ℕ, suc, _+_, _*_, _/_, _≤_, _<_}
+use Prim.Native.Nat.{ℕ, _+_, _≤_}
 use mathlib.Core.Path.{_≡_, refl, ap, ap₂, sym, subst, _∙_}
 use mathlib.Core.Bool.{Bool, true, false, cond, not, _&&_, _||_}
 use mathlib.Core.List.{List, [], _∷_, _++_}
@@ -9,19 +9,19 @@ use lib.ListN.{length, length-append}
 use borrow.Author.Tests.{eqb-true, eqb-false, ne-eqb, not-true}
 use Rattle.base.specs.Bytes.{Bytes}
 use Rattle.base.proofs.Truths.{and-left, and-right, or-left, or-right}
-use Rattle.packet.specs.Packet.{csrcCount, payloadType, extensionType, wordCount, payload, fieldAllowed, payloadAllowed}
+use Rattle.packet.specs.Packet.{payloadType, extensionType, wordCount, payload, fieldAllowed, payloadAllowed}
 use Rattle.packet.specs.Items.{Item, ddcType, itemAllowed, allAllowed, hasType, noTypeTwice, sqiAmong, climaxAmong, sideAmong, kept}
-use Rattle.packet.specs.Refusals.{Case, NoCase, Answer, accepted, refused, judged, mapped}
+use Rattle.packet.specs.Refusals.{Case, NoCase, Answer, accepted, judged}
 use Rattle.packet.proofs.Judged.{judged-both}
 use Rattle.reader.specs.Reading.{messageOf, itemsHere, read, readerRefusals, asTx}
 use Rattle.reader.proofs.Passed.{Passed, accepted-passed}
 use Rattle.writer.specs.Writing.{itemBytes, fieldOf}
-use Rattle.record.specs.Record.{seatOf, settled}
-use Rattle.hearing.specs.Hearing.{messageIn, packetRefusals, messageRefusals, heardBench, isSent, hearing, packetSaid, audioIn}
+use Rattle.record.specs.Record.{seatOf}
+use Rattle.hearing.specs.Hearing.{messageIn, packetRefusals, heardBench, hearing, packetSaid, audioIn}
 use Rattle.hearing.proofs.AudioSent.{sound-is}
 use Rattle.bench.specs.Step.{packet, Said, Outcome, outcome, told, step}
 use Rattle.packet.specs.declared.message.Direction.{Direction}
-use Rattle.packet.specs.declared.message.Direction.the-variants.{Tx, Rx}
+use Rattle.packet.specs.declared.message.Direction.the-variants.{Tx}
 use Rattle.packet.specs.declared.message.Message.{Message}
 use Rattle.packet.specs.declared.message.Items.{Items}
 use Rattle.record.specs.declared.whole.Bench.{Bench}
@@ -29,9 +29,9 @@ use Rattle.hearing.specs.declared.hearing.Hearing.{Hearing}
 use Rattle.demands.specs.Inversion.{laid, csrcWords}
 use Rattle.demands.specs.RoundTrip.{Narrow}
 use Rattle.demands.specs.Rewrite.{WithoutDdc}
-use Rattle.demands.specs.SteppedOver.{relaid, Holds, others, ddc, Alike, SteppedOver}
+use Rattle.demands.specs.SteppedOver.{relaid, Holds, others, ddc, Alike, IsRead, SteppedOver}
 use Rattle.demands.proofs.Demand2.Inversion.{laid-out, csrc-long, room-here}
-use Rattle.demands.proofs.Demand2.ItemsBack.{Writes, AllWrite}
+use Rattle.demands.proofs.Demand2.ItemsBack.{AllWrite}
 use Rattle.demands.proofs.Demand2.AllowedItems.{all-write, here-once}
 use Rattle.demands.proofs.Demand2.ReadBack.{casesLeft}
 use Rattle.demands.proofs.Demand2.Written.{field-written, allowed-alike, writable-is}
@@ -285,10 +285,13 @@ module _ (d : Direction) (ext : ℕ) (p : List ℕ) (small : Bytes p) (h : Passe
 pub stepped-over : SteppedOver
 stepped-over =
     record {
-      taken-out = λ d ext p m words small e room. without d ext p small (accepted-passed d ext p m e .0) words room;
-      own-words = λ d ext p m small e.
-          let room = own-room d ext p small (accepted-passed d ext p m e .0) in
+      taken-out = λ p words r room. without (r .direction) (r .ext) p (r .bytes) (passed p r) words room;
+      own-words = λ p r.
+          let room = own-room (r .direction) (r .ext) p (r .bytes) (passed p r) in
           (omega (arith, room .0, others-shorter (itemsHere p)), room .1);
-      put-in = λ d ext p m words before after value small e none is short room.
-          with-one d ext p small (accepted-passed d ext p m e .0) words before after value none is short room;
+      put-in = λ p words before after value r none is short room.
+          with-one (r .direction) (r .ext) p (r .bytes) (passed p r) words before after value none is short room;
     }
+  where
+    passed : (p : List ℕ) (r : IsRead p) → Passed (r .direction) (r .ext) p
+    passed p r = accepted-passed (r .direction) (r .ext) p (r .message) (r .accepts) .0

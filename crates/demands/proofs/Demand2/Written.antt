@@ -1,10 +1,10 @@
 -- What the writer puts together for a message that it accepts, part by part.
-use Prim.Native.Nat.{ℕ, _+_, _*_, _-_, _<_, _≤_}
+use Prim.Native.Nat.{ℕ, _<_, _≤_}
 use mathlib.Core.Path.{_≡_, refl, ap, _∙_}
 use mathlib.Core.Bool.{Bool, true, false, cond, _&&_, _||_}
-use mathlib.Core.List.{List, _++_}
+use mathlib.Core.List.{List}
 use native.Mathlib.Omega.{arith}
-use lib.ListN.{length, take, drop, replicate, length-append, length-replicate}
+use lib.ListN.{length, take, drop}
 use lib.Seq.{take-at}
 use lib.Dec.{leb, eqb}
 use borrow.Author.Tests.{leb-true, le-leb, not-false}
@@ -12,11 +12,11 @@ use Rattle.base.specs.Bytes.{isSet, bit}
 use Rattle.packet.specs.Packet.{audioLength, payloadAllowed, fieldAllowed}
 use Rattle.packet.specs.Items.{Item, someItem}
 use Rattle.packet.specs.Refusals.{Answer}
-use Rattle.writer.specs.Writing.{risingItems, itemBytes, fewestWords, fieldOf, wordsOf, kindFor, headOf, encode, sqiWritable, climaxWritable, writable, writerRefusals, write, filled, buffered}
+use Rattle.writer.specs.Writing.{risingItems, fieldOf, kindFor, encode, sqiWritable, climaxWritable, writable, writerRefusals, write, filled, buffered}
 use Rattle.packet.specs.declared.message.Direction.{Direction}
 use Rattle.packet.specs.declared.message.Direction.the-variants.{Tx, Rx}
 use Rattle.packet.specs.declared.message.Message.{Message}
-use Rattle.demands.specs.RoundTrip.{Narrow, WrittenAtFront}
+use Rattle.demands.specs.RoundTrip.{WrittenAtFront}
 use Rattle.demands.proofs.Demand2.Numbers.{FieldSays, field-says}
 use Rattle.base.proofs.Truths.{and-left, and-right, bit-most}
 use Rattle.packet.proofs.Judged.{meets-none}
