@@ -2,7 +2,7 @@
 -- ignores it." A packet with a type 4 item and the same packet with it taken out are the same to every reader and every bench.
 use Prim.Native.Nat.{ℕ, _+_, _*_, _≤_}
 use mathlib.Core.Path.{_≡_}
-use mathlib.Core.Bool.{cond}
+use mathlib.Core.Bool.{true, cond}
 use mathlib.Core.List.{List, [], _∷_, _++_}
 use lib.Dec.{eqb}
 use lib.ListN.{length}
@@ -11,12 +11,13 @@ use Rattle.packet.specs.Packet.{payloadType, extensionType, wordCount, payload}
 use Rattle.packet.specs.Items.{Item, ddcType}
 use Rattle.packet.specs.Refusals.{accepted}
 use Rattle.reader.specs.Reading.{messageOf, itemsHere, read}
-use Rattle.writer.specs.Writing.{itemBytes}
+use Rattle.writer.specs.Writing.{itemBytes, encode, writable}
 use Rattle.bench.specs.Step.{packet, step}
 use Rattle.packet.specs.declared.message.Direction.{Direction}
 use Rattle.packet.specs.declared.message.Message.{Message}
 use Rattle.record.specs.declared.whole.Bench.{Bench}
 use Rattle.demands.specs.Inversion.{laid, csrcWords}
+use Rattle.demands.specs.RoundTrip.{Narrow}
 use Rattle.demands.specs.Rewrite.{WithoutDdc}
 
 -- A packet with other items, in so many words: all else of it as it was. (Inversion: with its own items, in its own number of
@@ -60,3 +61,5 @@ pub record SteppedOver : Type 0 where
   -- and with one of any length 0 to 15 put in, anywhere among the items of a packet that has none
   pub put-in : (p : List ℕ) (words : ℕ) (before after : List Item) (value : List ℕ) → IsRead p → WithoutDdc p → itemsHere p ≡ before ++ after
       → length value ≤ 15 → Holds words (before ++ ddc value ∷ after) → Alike p (relaid words (before ++ ddc value ∷ after) p)
+  -- "Writers never write it."
+  pub never-written : (ext : ℕ) (m : Message) (sound : List ℕ) → Narrow ext m → writable m (length sound) ≡ true → WithoutDdc (encode ext m sound)

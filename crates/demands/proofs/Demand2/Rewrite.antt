@@ -6,7 +6,6 @@ use lib.ListN.{length, drop}
 use borrow.Author.Tests.{le-ltb}
 use Rattle.base.specs.Bytes.{Bytes}
 use Rattle.packet.specs.Packet.{wordCount, payloadType, payload}
-use Rattle.packet.specs.Items.{ddcType, hasType}
 use Rattle.packet.specs.Refusals.{Answer, accepted, refused, mapped}
 use Rattle.reader.specs.Reading.{messageOf, itemsHere, read, asTx, asRx, readTx, readRx}
 use Rattle.writer.specs.Writing.{fromTx, fromRx, fewestWords, kindFor, encode, writerRefusals, write, buffered}
@@ -19,10 +18,9 @@ use Rattle.demands.specs.Rewrite.{WithoutDdc, Rewritten, Rewrite, Rewrit
 use Rattle.packet.proofs.Judged.{never}
 use Rattle.reader.proofs.Passed.{Passed, accepted-passed}
 use Rattle.demands.proofs.Demand2.Inversion.{laid-out}
-use Rattle.demands.proofs.Demand2.RisingItems.{no-ddc}
 use Rattle.demands.proofs.Demand2.AllowedItems.{rising-are-kept}
 use Rattle.demands.proofs.Demand2.Written.{itemsFor}
-use Rattle.demands.proofs.Demand2.RoundTrip.{laid-plain, plain-written, items-here}
+use Rattle.demands.proofs.Demand2.RoundTrip.{laid-plain, plain-written, never-written}
 use Rattle.demands.proofs.Demand2.Accepted.{items-stand, kind-is, numbers-fit, message-writable, tx-says-all, rx-says-all}
 
 module _ (d : Direction) (ext : ℕ) (p : List ℕ) (small : Bytes p) (h : Passed d ext p) where
@@ -49,7 +47,7 @@ module _ (d : Direction) (ext : ℕ) (p : List ℕ) (small : Bytes p) (h : Passe
       let fits = numbers-fit d ext p small h in
       let fine = message-writable d ext p small h in
       subst (λ (q : List ℕ). Plain q × WithoutDdc q) e
-      (plain-written ext m (payload p) fits fine, ap (hasType ddcType) (items-here ext m (payload p) fits fine) ∙ no-ddc (m .items))
+      (plain-written ext m (payload p) fits fine, never-written ext m (payload p) fits fine)
 
   stands-again : Plain p → WithoutDdc p → (buffer : List ℕ) → length p ≤ length buffer
       → (write ext m (payload p) (length buffer) ≡ accepted (length p)) × (buffered ext m (payload p) buffer ≡ p ++ drop (length p) buffer)

@@ -6,7 +6,7 @@ use mathlib.Core.List.{List, []}
 use native.Mathlib.Omega.{arith}
 use lib.ListN.{length}
 use Rattle.packet.specs.Packet.{csrcCount, wordCount, payload}
-use Rattle.packet.specs.Items.{allAllowed}
+use Rattle.packet.specs.Items.{ddcType, allAllowed, hasType}
 use Rattle.packet.specs.Refusals.{accepted, mapped}
 use Rattle.reader.specs.Reading.{itemsHere, read, asTx, asRx, readTx, readRx}
 use Rattle.writer.specs.Writing.{fromTx, fromRx, fewestWords, wordsOf, kindFor, headOf, encode, writable}
@@ -14,13 +14,14 @@ use Rattle.packet.specs.declared.message.Direction.{Direction}
 use Rattle.packet.specs.declared.message.Direction.the-variants.{Tx, Rx}
 use Rattle.packet.specs.declared.message.Message.{Message}
 use Rattle.demands.specs.Inversion.{laid}
+use Rattle.demands.specs.Rewrite.{WithoutDdc}
 use Rattle.demands.specs.RoundTrip.{Narrow, RoundTripTx, RoundTripRx, PlainWritten, ReportsReadBack}
 use Rattle.packet.proofs.Judged.{meets-none}
 use Rattle.reporting.specs.Reporting.{reportOf, reportRefusals, reportSaid, reportBytes}
 use Rattle.reporting.proofs.Accepted.{report-accepted}
 use Rattle.reporting.proofs.ReportLaws.{report-writable}
 use Rattle.writer.proofs.Words.{few-words}
-use Rattle.demands.proofs.Demand2.RisingItems.{rising-writes, rising-kept, rising-once, rising-rises, rising-in-tx, rising-in-rx}
+use Rattle.demands.proofs.Demand2.RisingItems.{rising-writes, rising-kept, rising-once, rising-rises, no-ddc, rising-in-tx, rising-in-rx}
 use Rattle.demands.proofs.Demand2.Written.{Writable, writable-is, kind-allowed, kind-narrow, sound-allowed, itemsFor}
 use Rattle.demands.proofs.Demand2.Laid.{Says, Fit}
 use Rattle.demands.proofs.Demand2.Laid as of-laid
@@ -84,6 +85,10 @@ plain-written ext m sound narrow fine =
       rising = simp held (rising-rises (m .items));
       fewest = ap wordCount is-laid ∙ parts .words-is ∙ simp held;
     }
+
+-- 02, request 1: "Writers never write it.", a type 4 item
+pub never-written : (ext : ℕ) (m : Message) (sound : List ℕ) → Narrow ext m → writable m (length sound) ≡ true → WithoutDdc (encode ext m sound)
+never-written ext m sound narrow fine = ap (hasType ddcType) (items-here ext m sound narrow fine) ∙ no-ddc (m .items)
 
 pub reports-read-back : ReportsReadBack
 unfolding reportBytes reportSaid

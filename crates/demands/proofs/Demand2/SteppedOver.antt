@@ -37,6 +37,7 @@ use Rattle.demands.proofs.Demand2.ReadBack.{casesLeft}
 use Rattle.demands.proofs.Demand2.Written.{field-written, allowed-alike, writable-is}
 use Rattle.demands.proofs.Demand2.Laid.{Fit}
 use Rattle.demands.proofs.Demand2.Laid as of-laid
+use Rattle.demands.proofs.Demand2.RoundTrip.{never-written}
 use Rattle.demands.proofs.Demand2.Accepted.{items-stand, numbers-fit, message-writable}
 
 -- ---- the items without those of type 4
@@ -291,6 +292,7 @@ stepped-over =
           (omega (arith, room .0, others-shorter (itemsHere p)), room .1);
       put-in = λ p words before after value r none is short room.
           with-one (r .direction) (r .ext) p (r .bytes) (passed p r) words before after value none is short room;
+      never-written = never-written;
     }
   where
     passed : (p : List ℕ) (r : IsRead p) → Passed (r .direction) (r .ext) p
