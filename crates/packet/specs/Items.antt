@@ -68,7 +68,7 @@ ddcType = 4
 abbrev pub sideType : ℕ
 sideType = 5
 
--- The value of an item of length 1.
+-- Types 1, 2 and 5 have length 1: one value byte.
 abbrev pub oneByte : Item → Bool
 oneByte i = eqb (length (i .value)) 1
 
@@ -110,8 +110,8 @@ inTx Rx = false
 abbrev pub inRx : Direction → Bool
 inRx d = not (inTx d)
 
--- The table of items. "Every other type is refused"; type 4, which 01 refused, since 02: "of any length 0 to 15 is stepped over ..
--- in TX and RX alike".
+-- The table of items. "Every other type is refused", but type 4, since 02: "one type 4 item of any length 0 to 15 is stepped
+-- over .. in TX and RX alike".
 unfoldable pub itemAllowed : Direction → Item → Bool
 itemAllowed d i =
     (eqb (i .type) sqiType && oneByte i && inRx d && sqiAllowed (sqiQuality (valueByte i)) (sqiMethod (valueByte i)))
