@@ -44,13 +44,14 @@ def past_the_words():
         for before in (b"", STANDBY):
             words = words_of(0x2081, before + ddc(length))
             stepped("type 4 in the fewest words, audio behind", before + ddc(length), before, kind=8, payload=sound(80))
-            # one word less; where it has the head, one to four bytes of the value are missing
-            if len(words) - 4 > 2 + len(before):
-                less, rest = words[:-4], words[-4:]
+            # cut at each word that still has the head
+            for end in range(len(words) - 4, 2 + len(before), -4):
+                less, rest = words[:end], words[end:]
                 add("type 4 past the words", built(words=less), 11)
                 add("type 4 past the words, audio behind", built(words=less, kind=8, payload=sound(80)), 11)
                 add("type 4 past the words, its bytes behind", built(words=less, payload=rest), 11)
-    # to the last byte, and the same bytes with a head that says one more
+    # to the last byte, and the same bytes with a head that says one more: by one byte only even lengths run past, as the
+    # head stands behind items of two bytes
     for length in range(1, 15, 2):
         before = b"" if length % 4 == 1 else CLIMAX
         words = words_of(0x2081, before + ddc(length))

@@ -20,14 +20,15 @@ def each_length(s):
     for length in range(16):
         read(s, "tx", CLIMAX + ddc(length) + STANDBY, "ptt=1 id=2 pm=0 ptts=0 cld=6 mss=1 audio=0")
         read(s, "rx", SQI + ddc(length) + STANDBY, "ptt=0 squ=1 id=0 pm=0 ptts=0 sct=1 sqi=7/0 mss=1 audio=0")
+    s.note("in RX alone, first and last")
+    for length in range(16):
+        read(s, "rx", ddc(length), "sqi=- mss=- audio=0")
+        read(s, "rx", ddc(length) + SQI + MAIN, "sqi=7/0 mss=0 audio=0")
+        read(s, "rx", STANDBY + SQI + ddc(length), "sqi=7/0 mss=1 audio=0")
 
 
 def in_rx(s):
-    s.session("02: type 4 in RX: alone, first, last, zeros behind, audio behind")
-    read(s, "rx", ddc(0), "sqi=- mss=- audio=0")
-    read(s, "rx", ddc(15), "sqi=- mss=- audio=0")
-    read(s, "rx", ddc(4) + STANDBY + SQI, "sqi=7/0 mss=1 audio=0")
-    read(s, "rx", SQI + MAIN + ddc(1), "sqi=7/0 mss=0 audio=0")
+    s.session("02: type 4 in RX: zeros behind, audio behind")
     read(s, "rx", ddc(2, b"\x00") + SQI + bytes(20), "sqi=7/0 mss=- audio=0")
     read(s, "rx", SQI + ddc(3), "sqi=7/0 mss=- audio=80", kind=8, payload=sound(80))
     s.note("a second one, a value past the words, X 0, a byte behind the ending zero byte")

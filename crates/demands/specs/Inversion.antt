@@ -1,6 +1,6 @@
 -- What an accepted packet's bytes are: the message, the CSRC words, the payload type, the number of words, the items in their
 -- order with their values, and the payload say every byte of it.
-use Prim.Native.Nat.{ℕ, _+_, _*_, _-_, _/_}
+use Prim.Native.Nat.{ℕ, _+_, _*_, _-_, _/_, _≤_}
 use mathlib.Core.Path.{_≡_}
 use mathlib.Core.List.{List, _++_}
 use lib.ListN.{length, replicate}
@@ -21,6 +21,10 @@ laid csrc kind ext words m is sound =
     ++ bytes16 ext ++ bytes16 words
     ++ bytes16 (fieldOf m is) ++ itemBytes is ++ replicate (4 * words - (2 + length (itemBytes is))) 0
     ++ sound
+
+-- Words that hold the items, and no more than 01 allows.
+abbrev pub Holds : (words : ℕ) → List Item → Type 0
+Holds words is = (2 + length (itemBytes is) ≤ 4 * words) × (words ≤ 15)
 
 unfoldable pub csrcWords : List ℕ → List ℕ
 csrcWords p = partOf headLength (extensionAt p) p

@@ -18,6 +18,7 @@ use Rattle.packet.specs.declared.message.Tx.{Tx}
 use Rattle.packet.specs.declared.message.Rx.{Rx}
 use Rattle.demands.specs.Plain.{Plain}
 
+-- No item of the packet is of type 4.
 abbrev pub WithoutDdc : List ℕ → Type 0
 WithoutDdc p = hasType ddcType (itemsHere p) ≡ false
 

@@ -78,15 +78,18 @@ abbrev pub past : ℕ → Mode
 past zero = Next
 past (suc n) = Skip n
 
+abbrev pub isDdc : ℕ → Bool
+isDdc b = eqb (itemType b) ddcType
+
 abbrev pub begun : (ddc : Bool) → ℕ → Mode
-begun g b = cond (eqb (itemType b) ddcType) (cond g Broken (past (itemLength b))) (Value b)
+begun g b = cond (isDdc b) (cond g Broken (past (itemLength b))) (Value b)
 
 abbrev pub behindItem : (ddc : Bool) → ℕ → Mode
 behindItem g b = cond (eqb b 0) Tail (begun g b)
 
 -- a type 4 item was met
 abbrev pub met : (ddc : Bool) → ℕ → Bool
-met g b = eqb (itemType b) ddcType || g
+met g b = isDdc b || g
 
 abbrev pub stepIn : Direction → Mode → (ddc : Bool) → Items → ℕ → Scan
 stepIn d Tail g k b = scanAt (inZeros b) g k

@@ -2,7 +2,7 @@
 // specs/ItemsIn.antt has the meaning, specs/Scan.antt what one byte does; proofs/Meaning.antt shows that they agree.
 ghost use mathlib.Core.Path.{_≡_};
 ghost use Rattle.packet.specs.Items.{sideOf};
-ghost use Rattle.items.specs.Scan.{sqiFree, climaxFree, sideFree, scanAt, takeSqi, takeClimax, takeSide, takeItem, behindValue, inZeros, past, begun, behindItem, stepOf, scanOf, startIn, mayEnd, endOf};
+ghost use Rattle.items.specs.Scan.{sqiFree, climaxFree, sideFree, scanAt, takeSqi, takeClimax, takeSide, takeItem, behindValue, inZeros, past, isDdc, begun, behindItem, stepOf, scanOf, startIn, mayEnd, endOf};
 ghost use Rattle.items.specs.ItemsIn.{itemsRead};
 use packet::ClimaxItem;
 use packet::Direction;
@@ -193,18 +193,21 @@ fn past(n: u8) -> Mode
     }
 }
 
+fn is_ddc(b: u8) -> bool
+    ensures { λ r. ⌜ r ≡ isDdc b ⌝ }
+{
+    b / 16 % 16 == 4
+}
+
 // An item's first byte. Of type 4 there is one, of any length, and its value is stepped over (02, request 1).
 fn begun(ddc: bool, b: u8) -> Mode
     ensures { λ r. ⌜ r ≡ begun ddc b ⌝ }
 {
-    let kind = b / 16 % 16;
-    if kind != 4 {
-        return Mode::Value(b);
+    if is_ddc(b) {
+        if ddc { Mode::Broken } else { past(b % 16) }
+    } else {
+        Mode::Value(b)
     }
-    if ddc {
-        return Mode::Broken;
-    }
-    past(b % 16)
 }
 
 // Behind an item a zero byte ends the items, and any other begins one.
@@ -221,7 +224,7 @@ fn step(d: Direction, s: Scan, b: u8) -> Scan
     let mode = s.mode;
     let ddc = s.ddc;
     let items = s.items;
-    let met = (b / 16 % 16 == 4) | ddc;
+    let met = is_ddc(b) | ddc;
     match mode {
         Mode::Tail => at(in_zeros(b), ddc, items),
         Mode::First => at(begun(ddc, b), met, items),

@@ -34,7 +34,7 @@ allZero [] = true
 allZero (b ∷ bs) = eqb b 0 && allZero bs
 
 -- "An item is one byte (type in the high half, length 1 in the low half) and one value byte." Of type 4, since 02:
--- "any length 0 to 15".
+-- "any length 0 to 15", which is what the low half can say.
 abbrev pub itemType : ℕ → ℕ
 itemType head = bits 8 0 4 head
 
@@ -42,7 +42,7 @@ abbrev pub itemLength : ℕ → ℕ
 itemLength head = bits 8 4 4 head
 
 -- The items, where so many bytes of a value come first.
-unfoldable pub itemsBehind : (value : ℕ) → List ℕ → Found
+unfoldable pub itemsBehind : (left : ℕ) → List ℕ → Found
 -- 11, since 02: ".. an item of any type whose value runs past the words"
 itemsBehind (suc n) [] = broken
 itemsBehind (suc n) (b ∷ rest) = itemsBehind n rest
@@ -123,7 +123,7 @@ unfoldable pub allAllowed : Direction → List Item → Bool
 allAllowed d [] = true
 allAllowed d (i ∷ is) = itemAllowed d i && allAllowed d is
 
--- "No type comes twice; any order is read."
+-- "No type comes twice; any order is read." 02: "11 no longer covers type 4, except a second one".
 unfoldable pub hasType : ℕ → List Item → Bool
 hasType t [] = false
 hasType t (i ∷ is) = eqb (i .type) t || hasType t is
@@ -140,7 +140,7 @@ unfoldable pub runAllowed : Direction → Found → Bool
 runAllowed d broken = false
 runAllowed d (found is) = someItem is && allAllowed d is && noTypeTwice is
 
--- "X = 0: all remaining bytes are zero. X = 1: at least one item"
+-- "X = 0: all remaining bytes are zero. X = 1: at least one item"; 02: "X = 1 with only such an item is fine", of type 4.
 unfoldable pub itemsAllowed : Direction → (x : ℕ) → List ℕ → Bool
 itemsAllowed d x bytes = cond (eqb x 0) (allZero bytes) (runAllowed d (itemsIn bytes))
 

@@ -18,9 +18,8 @@ use Rattle.packet.specs.declared.message.Direction.the-variants.{Tx, Rx}
 use Rattle.packet.specs.declared.message.SqiItem.the-variants as sqi
 use Rattle.packet.specs.declared.message.ClimaxItem.the-variants as climax
 use Rattle.packet.specs.declared.message.Message.{Message}
-use Rattle.demands.specs.Inversion.{laid}
+use Rattle.demands.specs.Inversion.{laid, Holds}
 use Rattle.demands.specs.RoundTrip.{Narrow}
-use Rattle.demands.specs.SteppedOver.{Holds}
 use Rattle.demands.proofs.Demand2.ItemsBack.{AllWrite, list-back, allowed-back}
 use Rattle.demands.proofs.Demand2.Parts.{heads, HasParts, composed, has-parts}
 use Rattle.demands.proofs.Demand2.ReadBack.{casesLeft, cases-are, message-made}

@@ -26,10 +26,10 @@ use Rattle.packet.specs.declared.message.Message.{Message}
 use Rattle.packet.specs.declared.message.Items.{Items}
 use Rattle.record.specs.declared.whole.Bench.{Bench}
 use Rattle.hearing.specs.declared.hearing.Hearing.{Hearing}
-use Rattle.demands.specs.Inversion.{laid, csrcWords}
+use Rattle.demands.specs.Inversion.{laid, Holds, csrcWords}
 use Rattle.demands.specs.RoundTrip.{Narrow}
 use Rattle.demands.specs.Rewrite.{WithoutDdc}
-use Rattle.demands.specs.SteppedOver.{relaid, Holds, others, ddc, Alike, IsRead, SteppedOver}
+use Rattle.demands.specs.SteppedOver.{relaid, others, ddc, Alike, IsRead, SteppedOver}
 use Rattle.demands.proofs.Demand2.Inversion.{laid-out, csrc-long, room-here}
 use Rattle.demands.proofs.Demand2.ItemsBack.{AllWrite}
 use Rattle.demands.proofs.Demand2.AllowedItems.{all-write, here-once}
@@ -211,14 +211,9 @@ module _ (csrc : List ℕ) (kind ext : ℕ) (m : Message) (sound : List ℕ) (wo
         ∙ judged-both (λ x y. after q x ≡ after p y) (refusals p) (hearing b n q) (hearing b n p)
         (λ k c. refl) (λ none. ap₂ (λ (s : Said) (r : Bench). record { answer = accepted s; bench = r }) (said-alike none) bench-alike)
 
-  pub alike : Alike p q
+  reads-alike : (d : Direction) (asked : ℕ) → read d asked q ≡ read d asked p
   unfolding read
-  alike =
-      record {
-        reads = λ d asked. simp (refusals-alike d asked, message-alike);
-        audio = sound-alike;
-        heard = heard-alike;
-      }
+  reads-alike d asked = simp (refusals-alike d asked, message-alike)
 
 -- ---- an accepted packet, with other items
 
@@ -258,24 +253,35 @@ module _ (d : Direction) (ext : ℕ) (p : List ℕ) (small : Bytes p) (h : Passe
   unfolding relaid
   itself = ap (λ (e : ℕ). laid (csrcWords p) (payloadType p) e (wordCount p) m is (payload p)) (h .type-is) ∙ sym (laid-out d ext p small h)
 
-  with-items : (words : ℕ) (js : List Item) → AllWrite js → Holds words js → kept js ≡ kept is → ((d : Direction) → allAllowed d js ≡ allAllowed d is)
-      → noTypeTwice js ≡ true → Alike p (relaid words js p)
-  unfolding relaid messageOf
-  with-items words js w room keeps allowed once =
-      subst (λ (l : List ℕ). Alike l (relaid words js p)) itself
-      (alike (csrcWords p) (payloadType p) (extensionType p) m (payload p) (wordCount p) words is js
-      (fits (wordCount p) is writes-here own-room) (fits words js w room) refl keeps allowed (once ∙ sym once-here))
+  module _ (words : ℕ) (js : List Item) (w : AllWrite js) (room : Holds words js) (keeps : kept js ≡ kept is)
+      (allowed : (d : Direction) → allAllowed d js ≡ allAllowed d is) (once : noTypeTwice js ≡ true) where
+    abbrev changed : List ℕ
+    changed = relaid words js p
 
-  without : (words : ℕ) → Holds words (others is) → Alike p (relaid words (others is) p) × WithoutDdc (relaid words (others is) p)
-  unfolding relaid
-  without words room = (
-    with-items words (others is) (others-write is writes-here) room (others-kept is) (λ e. others-allowed e is) (others-once is once-here),
-    ap (hasType ddcType) (of-laid.items-here (csrcWords p) (payloadType p) (extensionType p) words m (others is) (payload p)
-        (fits words (others is) (others-write is writes-here) room)) ∙ others-none is,
-  )
+    -- what holds of both packets, laid out, holds of the packet itself
+    of-both : (R : List ℕ → Type 0) → R (relaid (wordCount p) is p) → R p
+    of-both R = subst R itself
+
+    with-items : Alike p words js
+    unfolding relaid messageOf
+    with-items =
+        let f = fits (wordCount p) is writes-here own-room in
+        let g = fits words js w room in
+        let same : noTypeTwice js ≡ noTypeTwice is = once ∙ sym once-here in
+        record {
+          items = of-laid.items-here (csrcWords p) (payloadType p) (extensionType p) words m js (payload p) g;
+          reads = λ e asked. of-both (λ l. read e asked changed ≡ read e asked l)
+              (reads-alike (csrcWords p) (payloadType p) (extensionType p) m (payload p) (wordCount p) words is js f g refl keeps allowed same e asked);
+          audio = of-laid.sound-back (csrcWords p) (payloadType p) (extensionType p) words m js (payload p) g;
+          heard = λ b n. of-both (λ l. step b (packet n changed) ≡ step b (packet n l))
+              (heard-alike (csrcWords p) (payloadType p) (extensionType p) m (payload p) (wordCount p) words is js f g refl keeps allowed same b n);
+        }
+
+  without : (words : ℕ) → Holds words (others is) → Alike p words (others is)
+  without words room = with-items words (others is) (others-write is writes-here) room (others-kept is) (λ e. others-allowed e is) (others-once is once-here)
 
   with-one : (words : ℕ) (before after : List Item) (value : List ℕ) → WithoutDdc p → is ≡ before ++ after → length value ≤ 15
-      → Holds words (before ++ ddc value ∷ after) → Alike p (relaid words (before ++ ddc value ∷ after) p)
+      → Holds words (before ++ ddc value ∷ after) → Alike p words (before ++ ddc value ∷ after)
   with-one words before after value none e short room =
       let gone : others (before ++ ddc value ∷ after) ≡ is = others-put after value before (sym (ap (hasType ddcType) e) ∙ none) ∙ sym e in
       with-items words (before ++ ddc value ∷ after) (put-write after value before short (subst AllWrite e writes-here)) room
@@ -286,6 +292,7 @@ module _ (d : Direction) (ext : ℕ) (p : List ℕ) (small : Bytes p) (h : Passe
 pub stepped-over : SteppedOver
 stepped-over =
     record {
+      itself = λ p r. itself (r .direction) (r .ext) p (r .bytes) (passed p r);
       taken-out = λ p words r room. without (r .direction) (r .ext) p (r .bytes) (passed p r) words room;
       own-words = λ p r.
           let room = own-room (r .direction) (r .ext) p (r .bytes) (passed p r) in

@@ -1,19 +1,22 @@
-use Rattle.base.proofs.Tests.{tests}
+use native.Mathlib.Nat.{div-one}
 use borrow.Author.Needs.{needs}
 use Rattle.items.proofs.scan.begun.Statement.{statement}
 use Rattle.items.proofs.scan.begun.Tie as tie
 
-returns : tie.Need-returns
-returns c = search (tests, c .if1 .taken)
-
-returns-2 : tie.Need-returns-2
-returns-2 c = search (tests, c .if2 .taken, c .before .if1 .left)
+is-ddc-requires : tie.Need-is-ddc-requires
+is-ddc-requires c κs = search needs
 
 past-requires : tie.Need-past-requires
 past-requires c κs = search needs
 
+returns : tie.Need-returns
+returns c = simp (← c .before .before .is-ddc .ensures, c .before .if1 .taken, c .if2 .taken)
+
+returns-2 : tie.Need-returns-2
+returns-2 c = simp (div-one, c .past .ensures, ← c .before .before .before .is-ddc .ensures, c .before .before .if1 .taken, c .before .if2 .left)
+
 returns-3 : tie.Need-returns-3
-returns-3 c = search (tests, c .past .ensures, c .before .if2 .left, c .before .before .if1 .left)
+returns-3 c = simp (← c .before .is-ddc .ensures, c .if1 .left)
 
 pub begun-spec : {M : Type 1} → statement M
-begun-spec = tie.close (tie.spec returns returns-2 past-requires returns-3)
+begun-spec = tie.close (tie.spec is-ddc-requires past-requires returns returns-2 returns-3)

@@ -2,6 +2,9 @@ use borrow.Author.Needs.{needs}
 use Rattle.items.proofs.scan.step.Statement.{statement}
 use Rattle.items.proofs.scan.step.Tie as tie
 
+is-ddc-requires : tie.Need-is-ddc-requires
+is-ddc-requires c κs = search needs
+
 enum-told : tie.Need-enum-told
 enum-told c = search needs
 
@@ -57,10 +60,10 @@ returns : tie.Need-returns
 returns c = simp (c .at .ensures, c .before .in-zeros .ensures, c .before .before .enum-told .given .1)
 
 returns-2 : tie.Need-returns-2
-returns-2 c = simp (c .at2 .ensures, c .before .begun .ensures, c .before .before .enum-told2 .given .1)
+returns-2 c = simp (c .at2 .ensures, c .before .begun .ensures, c .before .before .enum-told2 .given .1, c .before .before .before .before .is-ddc .ensures)
 
 returns-3 : tie.Need-returns-3
-returns-3 c = simp (c .at3 .ensures, c .before .behind-item .ensures, c .before .before .enum-told3 .given .1)
+returns-3 c = simp (c .at3 .ensures, c .before .behind-item .ensures, c .before .before .enum-told3 .given .1, c .before .before .before .before .is-ddc .ensures)
 
 returns-4 : tie.Need-returns-4
 returns-4 c = simp (c .behind-value .ensures, c .before .take .ensures, c .before .before .before .mode .given .1)
@@ -75,6 +78,7 @@ pub step-spec : {M : Type 1} → statement M
 step-spec =
     tie.close
     (tie.spec
+    is-ddc-requires
     enum-told
     in-zeros-requires
     at-requires
