@@ -45,7 +45,8 @@ pub record Alike (p : List ℕ) (words : ℕ) (is : List Item) : Type 0 where
   pub items : itemsHere (relaid words is p) ≡ is
   pub reads : (d : Direction) (ext : ℕ) → read d ext (relaid words is p) ≡ read d ext p
   pub audio : payload (relaid words is p) ≡ payload p
-  -- all that the bench answers (missing packets, reply now, the side in use, the audio to send, or a refusal), and the bench after it
+  -- all that the bench answers (missing packets, reply now, the side in use, the audio's bytes, or a refusal), and the bench after
+  -- it; where the audio lies in the packet follows the words
   pub heard : (b : Bench) (n : ℕ) → step b (packet n (relaid words is p)) ≡ step b (packet n p)
 
 pub record SteppedOver : Type 0 where
