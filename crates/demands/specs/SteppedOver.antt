@@ -49,6 +49,10 @@ pub record Alike (p : List ℕ) (words : ℕ) (is : List Item) : Type 0 where
   -- it; where the audio lies in the packet follows the words
   pub heard : (b : Bench) (n : ℕ) → step b (packet n (relaid words is p)) ≡ step b (packet n p)
 
+-- "Writers never write it."
+abbrev pub NeverWritten : Type 0
+NeverWritten = (ext : ℕ) (m : Message) (sound : List ℕ) → Narrow ext m → writable m (length sound) ≡ true → WithoutDdc (encode ext m sound)
+
 pub record SteppedOver : Type 0 where
   -- a packet with its own items, in its own words, is the packet itself
   pub itself : (p : List ℕ) → IsRead p → relaid (wordCount p) (itemsHere p) p ≡ p
@@ -59,5 +63,4 @@ pub record SteppedOver : Type 0 where
   -- put in: a packet that has none is alike with one of any length 0 to 15, anywhere among its items
   pub put-in : (p : List ℕ) (words : ℕ) (before after : List Item) (value : List ℕ) → IsRead p → WithoutDdc p → itemsHere p ≡ before ++ after
       → length value ≤ 15 → Holds words (before ++ ddc value ∷ after) → Alike p words (before ++ ddc value ∷ after)
-  -- "Writers never write it."
-  pub never-written : (ext : ℕ) (m : Message) (sound : List ℕ) → Narrow ext m → writable m (length sound) ≡ true → WithoutDdc (encode ext m sound)
+  pub never-written : NeverWritten

@@ -19,6 +19,7 @@ use Rattle.packet.specs.declared.message.SideItem.{SideItem}
 use Rattle.packet.specs.declared.message.SideItem.the-variants as side
 use Rattle.packet.specs.declared.message.Items.{Items}
 use Rattle.demands.specs.Plain.{Rising}
+use Rattle.demands.proofs.Demand2.Items.{tail-bytes}
 use Rattle.demands.proofs.Demand2.Inversion.{take-bytes}
 use Rattle.demands.proofs.Demand2.ItemsBack.{AllWrite}
 use Rattle.demands.proofs.Demand2.RisingItems.{sqi-value, climax-value, rising-kept}
@@ -260,10 +261,10 @@ short-values : (n : ℕ) (bs : List ℕ) → Bytes bs → AllShort (listed (item
 unfolding itemsBehind
 short-values zero [] h = tt
 short-values (suc n) [] h = tt
-short-values (suc n) (b ∷ bs) h = short-values n bs (λ i. h (suc i))
+short-values (suc n) (b ∷ bs) h = short-values n bs (tail-bytes b bs h)
 short-values zero (b ∷ bs) h =
     short-either (eqb b 0) _ _ (short-either (allZero bs) (found []) broken tt tt)
-    (short-behind _ (itemsBehind (itemLength b) bs) (taken-short b bs (λ i. h (suc i))) (short-values (itemLength b) bs (λ i. h (suc i))))
+    (short-behind _ (itemsBehind (itemLength b) bs) (taken-short b bs (tail-bytes b bs h)) (short-values (itemLength b) bs (tail-bytes b bs h)))
 
 pub here-stand : (d : Direction) (x : ℕ) (bs : List ℕ) → Bytes bs → itemsAllowed d x bs ≡ true → AllStand d (itemsOf x bs)
 unfolding itemsAllowed itemsOf runAllowed

@@ -13,7 +13,7 @@ use Rattle.packet.specs.Items.{Item, Found, found, broken, behind, allZero, ite
 use Rattle.packet.proofs.ItemLaws.{not-found, found-same, value-whole}
 use Rattle.writer.specs.Writing.{itemBytes}
 
-tail-bytes : (b : ℕ) (bs : List ℕ) → Bytes (b ∷ bs) → Bytes bs
+pub tail-bytes : (b : ℕ) (bs : List ℕ) → Bytes (b ∷ bs) → Bytes bs
 tail-bytes b bs h i = h (suc i)
 
 -- zeros alone

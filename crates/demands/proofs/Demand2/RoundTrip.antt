@@ -14,8 +14,8 @@ use Rattle.packet.specs.declared.message.Direction.{Direction}
 use Rattle.packet.specs.declared.message.Direction.the-variants.{Tx, Rx}
 use Rattle.packet.specs.declared.message.Message.{Message}
 use Rattle.demands.specs.Inversion.{laid}
-use Rattle.demands.specs.Rewrite.{WithoutDdc}
 use Rattle.demands.specs.RoundTrip.{Narrow, RoundTripTx, RoundTripRx, PlainWritten, ReportsReadBack}
+use Rattle.demands.specs.SteppedOver.{NeverWritten}
 use Rattle.packet.proofs.Judged.{meets-none}
 use Rattle.reporting.specs.Reporting.{reportOf, reportRefusals, reportSaid, reportBytes}
 use Rattle.reporting.proofs.Accepted.{report-accepted}
@@ -86,8 +86,7 @@ plain-written ext m sound narrow fine =
       fewest = ap wordCount is-laid ∙ parts .words-is ∙ simp held;
     }
 
--- 02, request 1: "Writers never write it.", a type 4 item
-pub never-written : (ext : ℕ) (m : Message) (sound : List ℕ) → Narrow ext m → writable m (length sound) ≡ true → WithoutDdc (encode ext m sound)
+pub never-written : NeverWritten
 never-written ext m sound narrow fine = ap (hasType ddcType) (items-here ext m sound narrow fine) ∙ no-ddc (m .items)
 
 pub reports-read-back : ReportsReadBack
