@@ -26,6 +26,7 @@ USAGE = {
     "read": "read tx|rx HEX",
     "write": "write tx SEQ TS SSRC PTT ID PM PTTS CLD MSS AUDIO ROOM"
     " or write rx SEQ TS SSRC PTT SQU ID PM PTTS SCT SQI MSS AUDIO ROOM",
+    "quality": "quality LEVEL",
     "help": "help",
 }
 UNKNOWN = "a call; help prints them"
@@ -58,6 +59,7 @@ byte, half, whole, room = number(255), number(65535), number(4294967295), number
 
 
 def level(word):
+    """In tenths of a dBm."""
     if not re.fullmatch("-?[0-9]+", word) or not -32768 <= int(word) <= 32767:
         raise Wrong
     return int(word)
@@ -119,6 +121,7 @@ ARGUMENTS = {
     "read": (one_of("tx", "rx"), data),
     "write tx": (one_of("tx"), half, whole, whole, byte, byte, bit, bit, absent_or(byte), absent_or(bit), data, room),
     "write rx": (one_of("rx"), half, whole, whole, byte, bit, byte, bit, bit, bit, absent_or(sqi), absent_or(bit), data, room),
+    "quality": (level,),
     "help": (),
 }
 
@@ -235,6 +238,9 @@ class Console:
         message = model.Message(sequence, timestamp, ssrc, field)
         answer = model.write(direction.upper(), self.bench.setup.ext, message, audio, room)
         return answer if isinstance(answer, model.Refused) else packet_written(answer)
+
+    def quality(self, level):
+        return f"ok quality={model.quality(level)}"
 
 
 def answers(lines):

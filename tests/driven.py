@@ -68,6 +68,7 @@ def edges():
     yield "every byte inside a word", b"".join(b"close 9" + bytes([b]) + b"9\n" for b in range(256))
     yield "a long session", long_session()
     yield "words at length", at_length()
+    yield "every level of 16 bits", b"".join(b"quality %d\n" % level for level in range(-32768, 32768))
 
 
 # ---- a random session
@@ -144,9 +145,15 @@ class Random:
     def close(self):
         return f"close {self.seat()}"
 
+    def level(self):
+        ends = [0, -1001, -1000, -980, -850, -701, -700, -699, 32767, -32768, 32768, -32769]
+        return self.r.choice(ends + 6 * [self.r.randrange(-1200, -599)])
+
     def received(self):
-        level = self.r.choice([0, -85, -100, -70, -101, 32767, -32768, -32769, self.r.randrange(-120, -60)])
-        return f"received {some_number(self.r, 255)} {level}"
+        return f"received {some_number(self.r, 255)} {self.level()}"
+
+    def quality(self):
+        return f"quality {self.level()}"
 
     def transmitter(self):
         return f"transmitter {pick(self.r, 'healthy', 'healthy', 'unhealthy')}"
@@ -170,7 +177,7 @@ class Random:
 
     # how often each comes
     KINDS = {"packet": 30, "report": 20, "tick": 10, "open": 20, "close": 1, "received": 4, "transmitter": 3, "side": 3,
-             "read": 4, "write": 4, "setup": 0.2, "junk": 2}
+             "read": 4, "write": 4, "quality": 2, "setup": 0.2, "junk": 2}
 
     def line(self):
         kind = self.r.choices(list(self.KINDS), list(self.KINDS.values()))[0]

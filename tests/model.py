@@ -5,7 +5,7 @@ ways where it can: fields are cut from a string of bits, items are a list of (ty
 pairs, and a keying keeps the number of the packet that began it, in a number without end.
 The tests work out their expected answers with it: `import model` gives both parts, packets
 (model_packet.py) and the bench (model_bench.py). Run by itself this file tries 01's printed
-examples on the model. Open points are read as in docs/DECISIONS.md.
+examples and 02's levels on the model. Open points are read as in docs/DECISIONS.md.
 """
 
 from model_bench import *
@@ -22,9 +22,7 @@ def try_examples():
     assert words_written(TX, Field(ptt=NORMAL, id=2)) == "20 80 00 00"
     assert words_written(TX, Field(ptt=EMERGENCY, id=61, ptts=1, side=STANDBY)) == "8F 51 51 80"
     assert words_written(TX, Field(ptt=NORMAL, id=2, climax=12 // 2, side=MAIN)) == "20 81 21 86 51 00 00 00"
-    assert words_written(RX, Field(squ=1, sct=1, sqi=(quality(-85), RSSI))) == "10 09 11 38"
-    # "P quality: -101 gives 0, -99 gives 0, -98 gives 1, -71 gives 14, -70 gives 15."
-    assert [quality(level) for level in (-101, -99, -98, -71, -70)] == [0, 0, 1, 14, 15]
+    assert words_written(RX, Field(squ=1, sct=1, sqi=(quality(-850), RSSI))) == "10 09 11 38"
     # "P order: 65535 then 0: none missing. 10 then 32777: 32766 missing. 10 then 32778: refused 20."
     assert distance(65535, 0) - 1 == 0 and distance(10, 32777) - 1 == 32766 and distance(10, 32778) <= 0
     # the program's line
@@ -58,5 +56,24 @@ def try_examples():
     print("01's printed examples hold in the model")
 
 
+def try_levels():
+    # "P quality: -101 gives 0, -99 gives 0, -98 gives 1, -71 gives 14, -70 gives 15.", in tenths:
+    # 02: "01's quality cases change with it."
+    assert [quality(level) for level in (-1010, -990, -980, -710, -700)] == [0, 0, 1, 14, 15]
+    # 02: "0 below -1000, 15 above -700"; -981 and -680: the last level before the first step, and where a sixteenth would be
+    ends = {-32768: 0, -1001: 0, -1000: 0, -981: 0, -701: 14, -699: 15, -680: 15, 32767: 15}
+    assert {level: quality(level) for level in ends} == ends
+
+    def before(level):
+        # 01: "quality 0 below -100 dBm, 15 above -70, between them the floor of (level + 100)/2"
+        return 0 if level < -100 else 15 if level > -70 else (level + 100) // 2
+
+    # 02: "Whole-dBm levels that fit keep their quality."
+    fitting = [whole for whole in range(-32768, 32768) if -32768 <= 10 * whole <= 32767]
+    assert [quality(10 * whole) for whole in fitting] == [before(whole) for whole in fitting]
+    print("02's levels hold in the model")
+
+
 if __name__ == "__main__":
     try_examples()
+    try_levels()

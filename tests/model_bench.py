@@ -216,7 +216,8 @@ class Bench:
     # -- radio events
 
     def received(self, count, level):
-        # "signals received (0 to 255) with a level in whole dBm"; "the other events are never refused"
+        # "signals received (0 to 255) with a level"; 02: "The level becomes tenths in a 16-bit signed number";
+        # "the other events are never refused"
         self.signals, self.level = count, level
 
     def transmitter(self, healthy):

@@ -1,4 +1,4 @@
-"""Document 01's packets, with 02's first request: what is read, what is written, what is turned away. Part of the model, see model.py."""
+"""Document 01's packets, with 02's first and third requests: what is read, what is written, what is turned away. Part of the model, see model.py."""
 
 from dataclasses import dataclass, replace
 
@@ -307,9 +307,10 @@ def plain(direction, ext, message, audio):
 
 
 def quality(level):
-    # "quality 0 below -100 dBm, 15 above -70, between them the floor of (level + 100)/2"
-    if level < -100:
+    # 02: "The level becomes tenths in a 16-bit signed number: 0 below -1000, 15 above -700,
+    #  between them the floor of (level + 1000)/20."
+    if level < -1000:
         return 0
-    if level > -70:
+    if level > -700:
         return 15
-    return (level + 100) // 2
+    return (level + 1000) // 20

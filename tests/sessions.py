@@ -16,6 +16,7 @@ import usage
 import written
 from sessions_air import air, time
 from sessions_ddc import ddc_items
+from sessions_levels import levels
 from sessions_lines import lines
 from sessions_packets import packets
 from sessions_printed import printed_examples, traps
@@ -52,7 +53,7 @@ def main():
     folder = pathlib.Path(given[0]) if given else CRATE
     folder.mkdir(parents=True, exist_ok=True)
     s = Sessions()
-    for part in (printed_examples, traps, refusals, time, air, packets, ddc_items, lines):
+    for part in (printed_examples, traps, refusals, time, air, packets, ddc_items, levels, lines):
         part(s)
     s.save(folder)
     print(f"{s.sessions} sessions, {len(s.lines)} lines, {len(s.answers)} answers; written to {folder}")

@@ -92,15 +92,15 @@ def packets(s):
     s.session("signals: SQU, SCT, SQI and audio in reports", SINGLE)
     s.open("1")
     s.told(1, squ=0, sct=0, sqi=None, side=None)
-    s.say("received 1 -75", "ok")
+    s.say("received 1 -750", "ok")
     s.told(1, squ=1, sct=0, sqi=(12, 0))
-    s.say("received 255 -75", "ok")
+    s.say("received 255 -750", "ok")
     s.told(1, squ=1, sct=1, sqi=(12, 0))
     for length in (80, 160, 240):
         s.told(1, audio=length, squ=1)
     s.packet(1, ptt=NORMAL)
     s.told(1, ptt=NORMAL, id=1, squ=1)
-    s.say("received 0 -60", "ok")
+    s.say("received 0 -600", "ok")
     s.told(1, squ=0, sct=0, sqi=None)
 
     s.session("no lesson seat, extension type FFFF", "setup - FFFF pair lockout interruption")

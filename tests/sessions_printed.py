@@ -36,12 +36,13 @@ def printed_examples(s):
     s.packet(3, sequence=10)
     s.packet(3, "refused 20 cause 0", sequence=32778)
 
-    s.session("01: RX off, SQU, SCT, -85 dBm: 10 09 11 38; quality at the ends of its steps", SINGLE)
+    s.session("01, levels in tenths of a dBm (02): RX off, SQU, SCT, -850: 10 09 11 38; quality at the ends of its steps", SINGLE)
     s.open("3")
-    s.say("received 2 -85", "ok")
+    s.say("received 2 -850", "ok")
     s.say("report 3 0 - 20", "0167000110091138")
-    steps = ((-32768, 0), (-101, 0), (-100, 0), (-99, 0), (-98, 1), (-85, 7), (-84, 8), (-71, 14), (-70, 15), (-69, 15), (0, 15), (32767, 15))
-    for level, quality in steps:
+    whole = ((-1010, 0), (-1000, 0), (-990, 0), (-980, 1), (-850, 7), (-840, 8), (-710, 14), (-700, 15), (-690, 15), (0, 15))
+    between = ((-1001, 0), (-981, 0), (-701, 14), (-699, 15), (-680, 15))
+    for level, quality in ((-32768, 0), *whole, (32767, 15), *between):
         s.say(f"received 1 {level}", "ok")
         s.told(3, squ=1, sct=0, sqi=(quality, model.RSSI))
 

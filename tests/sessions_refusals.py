@@ -129,7 +129,7 @@ def refusals(s):
     s.open("3", sequence=65534)
     full = sound(3, 80).hex().upper()
     s.say(f"report 3 0 {full} 300", "refused 25 cause 0")
-    s.say("received 1 -80", "ok")
+    s.say("received 1 -800", "ok")
     for length in (1, 79, 81, 241):
         s.say(f"report 3 0 {sound(3, length).hex().upper()} 0", "refused 25 cause 0")
     s.say(f"report 3 0 {full} 103", "refused 26 cause 0")
@@ -140,7 +140,7 @@ def refusals(s):
     s.say("report 3 2 - 24", "ok len=24 907B0000")
     s.note("more room than the report needs")
     s.say("report 3 3 - 30", "ok len=24 907B0001")
-    s.say("received 0 -80", "ok")
+    s.say("received 0 -800", "ok")
     s.say("report 3 4 - 30", "ok len=20 907B0002")
     s.say("report 3 4 - 19", "refused 26 cause 0")
     s.told(3)

@@ -1,8 +1,9 @@
 #!/usr/bin/env python3
 """Runs long random sessions of well-formed calls on the console and checks what needs no second implementation:
 no `error:` line; the same session twice gives the same answers; a refused call changes nothing (the session without
-its refused calls answers the same); a type 4 item is stepped over (the session without them answers the same); and
-demand 3 (the session without its lesson calls answers live seats the same, but for what the demand allows).
+its refused calls answers the same); a type 4 item is stepped over (the session without them answers the same); a report
+tells the quality that `quality` answers for the level last received; and demand 3 (the session without its lesson calls
+answers live seats the same, but for what the demand allows).
 
   tests/soak.py [LINES] [SEED]     LINES a session, 20,000 if not given; without SEED a session for each choice of modes
 
@@ -55,7 +56,7 @@ def session(count, seed):
     without = {}
     while len(lines) < count:
         seat = r.choice([1, 2, 3, 4, 5, 6, 7, 8, 7, 8] * 3 + [0, 9])
-        kind = r.choices(["packet", "report", "tick", "open", "close", "received", "transmitter", "side"], [40, 26, 5, 6, 1, 4, 2, 2])[0]
+        kind = r.choices(["packet", "report", "tick", "open", "close", "received", "transmitter", "side", "quality"], [40, 26, 5, 6, 1, 4, 2, 2, 1])[0]
         if kind == "packet":
             sequence[seat] = (sequence[seat] + r.choice([1] * 16 + [2, 9, 0, 32767])) % 65536
             data, plain = a_packet(r, seat, sequence[seat])
@@ -69,8 +70,9 @@ def session(count, seed):
             call = r.choice(["txrx"] * 5 + ["idle", "rxonly", "coupling"])
             lines.append(f"open {seat} {call} {r.choice([200, 1000, 1000, 1000, 1000, 19])} {r.choice([2, 50, 50, 50, 50, 50, 51])} {r.randrange(2**32)} {r.randrange(65536)}")
         else:
+            level = r.choice([-32768, 32767] + 14 * [r.randrange(-1200, -500)])
             words = {"close": seat, "tick": r.choice([0, 1, 10, 20, 20, 100, 1000, 1001]),
-                     "received": f"{r.choice([0, 1, 2, 255])} {r.randrange(-120, -50)}",
+                     "received": f"{r.choice([0, 1, 2, 255])} {level}", "quality": level,
                      "transmitter": r.choice(["healthy", "healthy", "healthy", "unhealthy"]), "side": r.choice(["main", "standby"])}
             lines.append(f"{kind} {words[kind]}")
     return lines, without
@@ -120,6 +122,30 @@ def fail(what, lines, number):
     sys.exit(f"FAIL: {what} at line {number + 1}: {lines[number][:120]}")
 
 
+def told_qualities(lines, first):
+    """Each report with an SQI item, which in plain form stands first: its number, its quality and the level last received."""
+    level = "-"
+    for i, (line, answer) in enumerate(zip(lines, first)):
+        words = line.split()
+        if words[0] == "received":
+            level = words[2]
+        if words[0] == "report" and answer.startswith("ok "):
+            item, value = bytes.fromhex(answer.split()[2])[18:20]
+            if item == 0x11:
+                yield i, value >> 3, level
+
+
+def hold_qualities(lines, first):
+    """The levels of such reports are asked in a run of their own. Answers how many reports there are."""
+    told = list(told_qualities(lines, first))
+    levels = sorted({level for _, _, level in told})
+    asked = dict(zip(levels, answers([f"quality {level}" for level in levels]), strict=True))
+    for i, quality, level in told:
+        if asked[level] != f"ok quality={quality}":
+            fail(f"another quality than `quality {level}` answers", lines, i)
+    return len(told)
+
+
 def soak(count, seed):
     lines, without = session(count, seed)
     first = answers(lines)
@@ -138,6 +164,7 @@ def soak(count, seed):
     for i, answer in enumerate(answers([without.get(i, line) for i, line in enumerate(lines)])):
         if answer != first[i]:
             fail("a type 4 item in it or before it changed the answer", lines, i)
+    told = hold_qualities(lines, first)
     live = [i for i, line in enumerate(lines) if not names_a_lesson(line)]
     alone = answers([lines[i] for i in live])
     for i, answer in zip(live, alone):
@@ -145,7 +172,7 @@ def soak(count, seed):
             fail("a lesson call before it changed what a live seat is told", lines, i)
     differing = sum(first[i] != answer for i, answer in zip(live, alone))
     refused = len(first) - len(kept)
-    print(f"seed {seed}: {len(lines)} calls, {refused} refused; {len(without)} type 4 items left out; "
+    print(f"seed {seed}: {len(lines)} calls, {refused} refused; {len(without)} type 4 items left out; {told} reports with a quality; "
           f"{len(lines) - len(live)} lesson calls left out, {differing} live answers differed as demand 3 allows")
 
 

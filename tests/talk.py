@@ -19,8 +19,8 @@ def sound(seat, length):
 
 
 def shows(answer, expected):
-    """A part of the answer; of refusals, ticks and openings its first words, whole."""
-    if expected.startswith(("refused", "ok closed", "ok id")):
+    """A part of the answer; of refusals, ticks, openings and qualities its first words, whole."""
+    if expected.startswith(("refused", "ok closed", "ok id", "ok quality")):
         return (answer + " ").startswith(expected + " ")
     return expected in answer
 

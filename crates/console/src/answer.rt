@@ -1,6 +1,7 @@
 // The answer to a call: the library is asked, and what it says is written as a line, with no line end.
 use crate::say::heard_line;
 use crate::say::ok;
+use crate::say::quality_line;
 use crate::say::refused;
 use crate::say::ticked_line;
 use crate::say::written_line;
@@ -20,6 +21,7 @@ use grammar::ROOM;
 use grammar::SetupSaid;
 use packet::Rx;
 use packet::Tx;
+use packet::quality;
 use reader::RxRead;
 use reader::TxRead;
 use reader::payload;
@@ -53,6 +55,7 @@ pub fn answer(b: Bench, call: Call, s: &[u8], bytes: &[u8], out: &mut [u8]) -> S
         | Call::ReadRx(_)
         | Call::WriteTx { .. }
         | Call::WriteRx { .. }
+        | Call::Quality(_)
         | Call::Help
         | Call::Wrong => told(b, line(b.setup.ext, call, s, bytes, out)),
     }
@@ -65,6 +68,7 @@ fn line(ext: u16, call: Call, s: &[u8], bytes: &[u8], out: &mut [u8]) -> usize {
         Call::ReadRx(count) => read_rx(ext, part(bytes, 0, count), out),
         Call::WriteTx { message, lent } => write_tx(ext, message, lent, bytes, out),
         Call::WriteRx { message, lent } => write_rx(ext, message, lent, bytes, out),
+        Call::Quality(level) => quality_line(out, quality(level)),
         Call::Help => help(out),
         Call::Wrong => expected(out, s),
         Call::Nothing

@@ -40,6 +40,11 @@ pub fn heard_line(out: &mut [u8], h: Hearing, audio: &[u8]) -> usize {
     put_bytes(out, at, audio)
 }
 
+pub fn quality_line(out: &mut [u8], quality: u8) -> usize {
+    let at = put(out, 0, b"ok quality=");
+    put_number(out, at, quality as u64)
+}
+
 // The packet lies at the front of the buffer.
 pub fn written_line(out: &mut [u8], written: Written, buffer: &[u8; ROOM]) -> usize {
     match written {

@@ -16,5 +16,7 @@ pub mod Rewrite
 pub mod SteppedOver
 pub mod BothWays
 pub mod Examples
+pub mod Tenths
+pub mod Steps
 pub mod Nodding
 pub mod WrongBenches

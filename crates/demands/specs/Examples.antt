@@ -1,4 +1,5 @@
--- 01, Bench examples: "Marked P: to be proved, as one table under a single theorem."
+-- 01, Bench examples: "Marked P: to be proved, as one table under a single theorem." 02, request 3: its "quality cases change" to
+-- tenths of a dBm.
 use Prim.Native.Nat.{ℕ, _/_}
 use mathlib.Core.Path.{_≡_}
 use mathlib.Core.Bool.{Bool, true, false}
@@ -26,7 +27,7 @@ use Rattle.packet.specs.declared.message.Rx.{Rx}
 pub data Example : Type 0 where
   tx : (words : List ℕ) → Tx → Example
   rx : (words : List ℕ) → Rx → Example
-  level : (dBm : ℤ) (gives : ℕ) → Example
+  level : (tenths : ℤ) (gives : ℕ) → Example
   order : (last new : ℕ) → Answer ℕ → Example
 
 -- The words in 01's printed packet: R2S, extension type 0167, seq=1 ts=0 ssrc=7.
@@ -43,14 +44,14 @@ rxSays ptt id squ pm ptts sct q s =
 
 -- a level below zero
 abbrev pub minus : ℕ → ℤ
-minus dBm = negℤ (pos dBm)
+minus tenths = negℤ (pos tenths)
 
 -- The words read as the message, and the message is written with these words. The level gives that quality. After a
 -- packet with the first number, one with the second is answered so: 20, or how many are missing.
 abbrev pub Holds : Example → Type 0
 Holds (tx words m) = (readTx 0x0167 (around words) ≡ accepted m) × (encode 0x0167 (fromTx m) [] ≡ around words)
 Holds (rx words m) = (readRx 0x0167 (around words) ≡ accepted m) × (encode 0x0167 (fromRx m) [] ≡ around words)
-Holds (level dBm gives) = quality dBm ≡ gives
+Holds (level tenths gives) = quality tenths ≡ gives
 Holds (order last new answer) = judged (20 if late true last new ∷ []) (missing true last new) ≡ answer
 
 abbrev pub table : List Example
@@ -62,13 +63,22 @@ table =
     -- "Normal, id 2, delay 12 ms, main: 20 81 21 86 51 00 00 00"
     ∷ tx (0x20 ∷ 0x81 ∷ 0x21 ∷ 0x86 ∷ 0x51 ∷ 0x00 ∷ 0x00 ∷ 0x00 ∷ []) (txSays normal 2 false false (climax.Is (12 / 2)) side.Main)
     -- "RX off, SQU, SCT, −85 dBm: 10 09 11 38"
-    ∷ rx (0x10 ∷ 0x09 ∷ 0x11 ∷ 0x38 ∷ []) (rxSays off 0 true false false true (sqi.Is (quality (minus 85)) rssi) side.Absent)
+    ∷ rx (0x10 ∷ 0x09 ∷ 0x11 ∷ 0x38 ∷ []) (rxSays off 0 true false false true (sqi.Is (quality (minus 850)) rssi) side.Absent)
     -- "−101 gives 0, −99 gives 0, −98 gives 1, −71 gives 14, −70 gives 15."
-    ∷ level (minus 101) 0
-    ∷ level (minus 99) 0
-    ∷ level (minus 98) 1
-    ∷ level (minus 71) 14
-    ∷ level (minus 70) 15
+    ∷ level (minus 1010) 0
+    ∷ level (minus 990) 0
+    ∷ level (minus 980) 1
+    ∷ level (minus 710) 14
+    ∷ level (minus 700) 15
+    -- around both ends, and the ends of the 16 bits
+    ∷ level (minus 1001) 0
+    ∷ level (minus 1000) 0
+    ∷ level (minus 981) 0
+    ∷ level (minus 701) 14
+    ∷ level (minus 699) 15
+    ∷ level (minus 680) 15
+    ∷ level (minus 32768) 0
+    ∷ level (pos 32767) 15
     -- "65535 then 0: none missing. 10 then 32777: 32766 missing. 10 then 32778: refused 20."
     ∷ order 65535 0 (accepted 0)
     ∷ order 10 32777 (accepted 32766)

@@ -8,6 +8,8 @@ pub mod RoundTrip
 pub mod Rewrite
 pub mod SteppedOver
 pub mod Examples
+pub mod Tenths
+pub mod Steps
 pub mod SeatAfter
 pub mod Kept
 pub mod Apart

@@ -6,6 +6,7 @@ use native.Mathlib.Omega.{arith}
 use borrow.Author.Tests.{eq-eqb, ne-eqb}
 use lib.ListN.{length, getD}
 use Rattle.base.specs.Text.{text}
+use Rattle.base.proofs.Truths.{_and_}
 use Rattle.words.specs.Input.{wordOf, lastOf, choiceOf}
 use Rattle.words.specs.Pairs.{bytesSaid, bytesLaid}
 use Rattle.words.specs.declared.pairs.BytesRead.{BytesRead}
@@ -25,42 +26,25 @@ pub is-then : {A B : Type 0} (a : A) (f : A → Said B) → _>>=_ (Is a) f ≡ f
 unfolding _>>=_
 is-then a f = refl
 
--- What holds of each call's place and of every number behind them holds of every number.
-by-place : (P : ℕ → Type 0) → P 0 → P 1 → P 2 → P 3 → P 4 → P 5 → P 6 → P 7 → P 8 → P 9 → P 10 → P 11
-    → ((n : ℕ) → P (suc (suc (suc (suc (suc (suc (suc (suc (suc (suc (suc (suc n)))))))))))))
-    → (n : ℕ) → P n
-by-place P a b c d e f g h i j k l m zero = a
-by-place P a b c d e f g h i j k l m (suc zero) = b
-by-place P a b c d e f g h i j k l m (suc (suc zero)) = c
-by-place P a b c d e f g h i j k l m (suc (suc (suc zero))) = d
-by-place P a b c d e f g h i j k l m (suc (suc (suc (suc zero)))) = e
-by-place P a b c d e f g h i j k l m (suc (suc (suc (suc (suc zero))))) = f
-by-place P a b c d e f g h i j k l m (suc (suc (suc (suc (suc (suc zero)))))) = g
-by-place P a b c d e f g h i j k l m (suc (suc (suc (suc (suc (suc (suc zero))))))) = h
-by-place P a b c d e f g h i j k l m (suc (suc (suc (suc (suc (suc (suc (suc zero)))))))) = i
-by-place P a b c d e f g h i j k l m (suc (suc (suc (suc (suc (suc (suc (suc (suc zero))))))))) = j
-by-place P a b c d e f g h i j k l m (suc (suc (suc (suc (suc (suc (suc (suc (suc (suc zero)))))))))) = k
-by-place P a b c d e f g h i j k l m (suc (suc (suc (suc (suc (suc (suc (suc (suc (suc (suc zero))))))))))) = l
-by-place P a b c d e f g h i j k l m (suc (suc (suc (suc (suc (suc (suc (suc (suc (suc (suc (suc n)))))))))))) = m n
+-- What holds of each of the first k numbers and of every number behind them holds of every number.
+abbrev Each : ℕ → (ℕ → Type 0) → Type 0
+Each zero P = (n : ℕ) → P n
+Each (suc k) P = P 0 × Each k (λ (n : ℕ). P (suc n))
+
+by-place : (k : ℕ) (P : ℕ → Type 0) → Each k P → (n : ℕ) → P n
+by-place zero P rest n = rest n
+by-place (suc k) P (first, rest) zero = first
+by-place (suc k) P (first, rest) (suc n) = by-place k (λ (n : ℕ). P (suc n)) rest n
 
 pub no-bytes : (s : List ℕ) (n : ℕ) → (n ≡ 4 → ⊥) → (n ≡ 5 → ⊥) → (n ≡ 9 → ⊥) → (n ≡ 10 → ⊥) → [] ≡ bytesWord s n
 unfolding bytesWord
 no-bytes s =
-    by-place
-    (λ (n : ℕ). (n ≡ 4 → ⊥) → (n ≡ 5 → ⊥) → (n ≡ 9 → ⊥) → (n ≡ 10 → ⊥) → [] ≡ bytesWord s n)
-    (λ a b c d. refl)
-    (λ a b c d. refl)
-    (λ a b c d. refl)
-    (λ a b c d. refl)
-    (λ a b c d. absurd (a refl))
-    (λ a b c d. absurd (b refl))
-    (λ a b c d. refl)
-    (λ a b c d. refl)
-    (λ a b c d. refl)
-    (λ a b c d. absurd (c refl))
-    (λ a b c d. absurd (d refl))
-    (λ a b c d. refl)
-    (λ n a b c d. refl)
+    by-place 11 (λ (n : ℕ). (n ≡ 4 → ⊥) → (n ≡ 5 → ⊥) → (n ≡ 9 → ⊥) → (n ≡ 10 → ⊥) → [] ≡ bytesWord s n)
+    ((λ a b c d. refl) and (λ a b c d. refl) and (λ a b c d. refl) and (λ a b c d. refl)
+    and (λ a b c d. absurd (a refl)) and (λ a b c d. absurd (b refl))
+    and (λ a b c d. refl) and (λ a b c d. refl) and (λ a b c d. refl)
+    and (λ a b c d. absurd (c refl)) and (λ a b c d. absurd (d refl))
+    and (λ n a b c d. refl))
 
 setup-with : (s : List ℕ) → setupWith s ≡ setupIn s
 unfolding setupWith modesIn setupIn
@@ -117,40 +101,16 @@ module _ (s : List ℕ) (room : ℕ) where
   said-at : (n : ℕ) → saidWith s n (bytesSaid (bytesWord s n) room) ≡ getD (lines s room) n (plain Not) .says
   unfolding saidWith bytesWord
   said-at =
-      by-place
-      (λ (n : ℕ). saidWith s n (bytesSaid (bytesWord s n) room) ≡ getD (lines s room) n (plain Not) .says)
-      (setup-with s)
-      (open-with s)
-      refl
-      refl
-      packet-with
-      report-with
-      refl
-      refl
-      refl
-      read-with
-      write-with
-      refl
-      (λ n. refl)
+      by-place 13 (λ (n : ℕ). saidWith s n (bytesSaid (bytesWord s n) room) ≡ getD (lines s room) n (plain Not) .says)
+      (setup-with s and open-with s and refl and refl and packet-with and report-with and refl and refl and refl
+      and read-with and write-with and refl and refl and (λ n. refl))
 
   bytes-at : (n : ℕ) → bytesWord s n ≡ getD (lines s room) n (plain Not) .bytes
   unfolding bytesWord
   bytes-at =
-      by-place
-      (λ (n : ℕ). bytesWord s n ≡ getD (lines s room) n (plain Not) .bytes)
-      refl
-      refl
-      refl
-      refl
-      refl
-      refl
-      refl
-      refl
-      refl
-      refl
-      write-bytes
-      refl
-      (λ n. refl)
+      by-place 13 (λ (n : ℕ). bytesWord s n ≡ getD (lines s room) n (plain Not) .bytes)
+      (refl and refl and refl and refl and refl and refl and refl and refl and refl
+      and refl and write-bytes and refl and refl and (λ n. refl))
 
 -- A number that is none of the first k is behind them.
 abbrev NoneOf : (k n : ℕ) → Type 0
@@ -161,9 +121,9 @@ past-all : (k n : ℕ) → NoneOf k n → k ≤ n
 past-all zero n r = omega arith
 past-all (suc k) n (r, h) = let l : k ≤ n = past-all k n r in omega arith
 
-pub no-call : (s : List ℕ) (n : ℕ) (given : BytesRead) → NoneOf 12 n → Not ≡ saidWith s n given
+pub no-call : (s : List ℕ) (n : ℕ) (given : BytesRead) → NoneOf 13 n → Not ≡ saidWith s n given
 unfolding saidWith
-no-call s n given r = no-line (_ ∷ _ ∷ _ ∷ _ ∷ _ ∷ _ ∷ _ ∷ _ ∷ _ ∷ _ ∷ _ ∷ _ ∷ []) Not refl (past-all 12 n r)
+no-call s n given r = no-line (_ ∷ _ ∷ _ ∷ _ ∷ _ ∷ _ ∷ _ ∷ _ ∷ _ ∷ _ ∷ _ ∷ _ ∷ _ ∷ []) Not refl (past-all 13 n r)
 
 -- The whole line, whose first word and word of bytes the code has found.
 module _ (s buffer : List ℕ) {n : ℕ} {w : List ℕ} (e : n ≡ namedIn s) (f : w ≡ bytesWord s n) where

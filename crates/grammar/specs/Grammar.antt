@@ -141,6 +141,12 @@ writeRxIn s room = do
       })
       (record { audio = audio; room = size }))
 
+-- "quality LEVEL"
+unfoldable pub qualityCallIn : List ℕ → Said Call
+qualityCallIn s = do
+  level ← levelIn (lastOf s 1)
+  Is (call.Quality level)
+
 -- "help"
 unfoldable pub helpIn : List ℕ → Said Call
 helpIn s = cond (eqb (length (lastOf s 0)) 0) Not (Is call.Help)
@@ -177,12 +183,13 @@ lines s room =
     ∷ plain (sideCallIn s)
     ∷ readIn s room with-bytes lastOf s 2
     ∷ writeIn s room
+    ∷ plain (qualityCallIn s)
     ∷ plain (helpIn s)
     ∷ []
 
 -- Which of them the first word names; a place behind them where it names none.
 unfoldable pub namedIn : List ℕ → ℕ
-namedIn s = choiceOf (wordOf s 0) (text "setup open close tick packet report received transmitter side read write help")
+namedIn s = choiceOf (wordOf s 0) (text "setup open close tick packet report received transmitter side read write quality help")
 
 unfoldable pub lineIn : List ℕ → (room : ℕ) → Line
 lineIn s room = getD (lines s room) (namedIn s) (plain Not)

@@ -7,7 +7,7 @@ use Rattle.base.specs.Text.{text}
 use Rattle.words.specs.Input.{wordOf, lastOf, choiceOf}
 use Rattle.words.specs.declared.pairs.BytesRead.{BytesRead}
 use Rattle.grammar.specs.Said.{Said, Is, Not, _>>=_, byteIn, halfIn, wholeIn, hexIn, countSaid, roomIn, oneOf, callTypeIn, seatsIn, flagIn, sideIn, climaxIn, sqiIn}
-use Rattle.grammar.specs.Grammar.{closeIn, tickIn, receivedIn, transmitterIn, sideCallIn, helpIn}
+use Rattle.grammar.specs.Grammar.{closeIn, tickIn, receivedIn, transmitterIn, sideCallIn, qualityCallIn, helpIn}
 use Rattle.grammar.specs.declared.call.Call.{Call}
 use Rattle.grammar.specs.declared.call.Call.the-variants as call
 use Rattle.grammar.specs.declared.call.Lent.{Lent}
@@ -240,6 +240,7 @@ saidWith s name given =
     ∷ sideCallIn s
     ∷ readWith s given
     ∷ writeWith s given
+    ∷ qualityCallIn s
     ∷ helpIn s
     ∷ [])
     name
@@ -250,4 +251,4 @@ unfoldable pub writeBytes : List ℕ → List ℕ
 writeBytes s = getD (wordOf s 11 ∷ wordOf s 13 ∷ []) (choiceOf (wordOf s 1) (text "tx rx")) []
 
 unfoldable pub bytesWord : List ℕ → (name : ℕ) → List ℕ
-bytesWord s name = getD ([] ∷ [] ∷ [] ∷ [] ∷ lastOf s 2 ∷ wordOf s 3 ∷ [] ∷ [] ∷ [] ∷ lastOf s 2 ∷ writeBytes s ∷ [] ∷ []) name []
+bytesWord s name = getD ([] ∷ [] ∷ [] ∷ [] ∷ lastOf s 2 ∷ wordOf s 3 ∷ [] ∷ [] ∷ [] ∷ lastOf s 2 ∷ writeBytes s ∷ []) name []

@@ -43,6 +43,7 @@ pub enum Call {
         message: Rx,
         lent: Lent,
     },
+    Quality(i16),
     Help,
     // A line that is no call.
     Wrong,

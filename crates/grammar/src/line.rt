@@ -2,7 +2,7 @@
 // behind it, is empty, and says nothing.
 ghost use mathlib.Core.Path.{_≡_};
 ghost use lib.ListN.{length};
-ghost use Rattle.grammar.specs.Grammar.{namedIn, callIn, bytesIn, orWrong, closeIn, tickIn, receivedIn, transmitterIn, sideCallIn, helpIn};
+ghost use Rattle.grammar.specs.Grammar.{namedIn, callIn, bytesIn, orWrong, closeIn, tickIn, receivedIn, transmitterIn, sideCallIn, qualityCallIn, helpIn};
 ghost use Rattle.grammar.specs.Pieces.{bytesWord, writeBytes, saidWith, setupWith, openWith, packetWith, reportWith, readWith, writeTxWith, writeRxWith, writeWith};
 use crate::call::Call;
 use crate::messages::RxSaid;
@@ -38,7 +38,7 @@ pub fn named(s: &[u8]) -> usize
 {
     choice(
         word(s, 0),
-        b"setup open close tick packet report received transmitter side read write help",
+        b"setup open close tick packet report received transmitter side read write quality help",
     )
 }
 
@@ -94,7 +94,8 @@ fn said(s: &[u8], name: usize, given: BytesRead) -> Call
         8 => side(s),
         9 => read(s, given),
         10 => write(s, given),
-        11 => help(s),
+        11 => quality(s),
+        12 => help(s),
         _ => Call::Wrong,
     }
 }
@@ -243,6 +244,15 @@ fn write_rx(s: &[u8], given: BytesRead) -> Call
     match lent(given, last(s, 14)) {
         LentRead::Is(lent) => Call::WriteRx { message, lent },
         LentRead::Not => Call::Wrong,
+    }
+}
+
+fn quality(s: &[u8]) -> Call
+    ensures { λ r. ⌜ r ≡ orWrong (qualityCallIn (now (s .entry))) ⌝ }
+{
+    match level(last(s, 1)) {
+        LevelRead::Is(level) => Call::Quality(level),
+        LevelRead::Not => Call::Wrong,
     }
 }
 

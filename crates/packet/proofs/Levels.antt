@@ -9,9 +9,9 @@ use lib.IntN.{ℤ, pos, negsuc, negℤ, _+ℤ_, _-ℤ_}
 use lib.Signed.{ltZ, leZ, quotZ}
 use mir.Syntax.{Width}
 use mir.Val.{SFits}
-use Rattle.base.specs.Order.{size}
 use Rattle.base.proofs.Signed.{by-difference}
 use Rattle.packet.specs.Quality.{floorDiv, quality}
+use Rattle.packet.proofs.QualityLaws.{below-zero}
 
 up-one : (n : ℕ) → negsuc n +ℤ pos 1 ≡ negℤ (pos n)
 up-one zero = refl
@@ -35,17 +35,16 @@ pub floor-above : (x : ℤ) (k : ℕ) → leZ (pos 0) x ≡ true → quotZ x (po
 floor-above (pos n) k e = refl
 floor-above (negsuc n) k e = cc
 
-pub floor-fits : (w : Width) (x : ℤ) (k : ℕ) → SFits w x → SFits w (floorDiv x k)
+floor-fits : (w : Width) (x : ℤ) (k : ℕ) → SFits w x → SFits w (floorDiv x k)
 floor-fits w (pos n) k f = record { sfits = omega (arith, div-le-self n k) }
 floor-fits w (negsuc n) k f = record { sfits = omega (arith, div-le-self n k) }
 
+pub below-fits : (w : Width) (x : ℤ) (k : ℕ) → leZ (pos 0) x ≡ false → SFits w x → SFits w (quotZ (x +ℤ pos 1) (pos k) -ℤ pos 1)
+below-fits w x k e f = rw (floor-below x k e) (floor-fits w x k f)
+
 -- between the ends the steps are counted from zero: 50 of them below it
-pub quality-between : (level : ℤ) → ltZ level (negℤ (pos 100)) ≡ false → ltZ (negℤ (pos 70)) level ≡ false → floorDiv level 2 +ℤ pos 50 ≡ pos (quality level)
-unfolding quality
+pub quality-between : (level : ℤ) → ltZ level (negℤ (pos 1000)) ≡ false → ltZ (negℤ (pos 700)) level ≡ false → floorDiv level 20 +ℤ pos 50 ≡ pos (quality level)
 quality-between (pos n) p q = cc
 quality-between (negsuc n) p q =
-    by-difference (λ (z : ℤ). z ≡ pos (quality (negsuc n))) 50 (suc (n / 2))
-    (λ l. absurd (omega (arith, ltb-false 99 n p)))
-    (λ l. simp (p, q) (by-difference (λ (z : ℤ). pos (50 - suc (n / 2)) ≡ pos (size (floorDiv z 2))) 100 (suc n)
-    (λ k. absurd (omega (arith, ltb-false 99 n p)))
-    (λ k. ap pos (omega arith))))
+    rw (below-zero n, q)
+    (by-difference (λ (z : ℤ). z ≡ pos ((999 - n) / 20)) 50 (suc (n / 20)) (λ l. absurd (omega (arith, ltb-false 999 n p))) (λ l. ap pos (omega arith)))

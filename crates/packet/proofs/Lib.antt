@@ -1,5 +1,5 @@
 pub mod Judged
 pub mod TellApart
-pub mod Levels
 pub mod QualityLaws
+pub mod Levels
 pub mod ItemLaws

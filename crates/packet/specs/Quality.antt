@@ -1,4 +1,4 @@
--- 01, Report to a seat: the quality told of a signal, from its level in whole dBm.
+-- 01, Report to a seat: the quality told of a signal; 02, request 3: "The level becomes tenths in a 16-bit signed number".
 use Prim.Native.Nat.{ℕ, _/_}
 use mathlib.Core.Bool.{cond}
 use lib.IntN.{ℤ, pos, negsuc, negℤ, _+ℤ_}
@@ -10,7 +10,7 @@ abbrev pub floorDiv : ℤ → ℕ → ℤ
 floorDiv (pos n) k = pos (n / k)
 floorDiv (negsuc n) k = negsuc (n / k)
 
--- "quality 0 below -100 dBm, 15 above -70, between them the floor of (level + 100)/2."
+-- "0 below -1000, 15 above -700, between them the floor of (level + 1000)/20."
 unfoldable pub quality : ℤ → ℕ
 quality level =
-    cond (ltZ level (negℤ (pos 100))) 0 (cond (ltZ (negℤ (pos 70)) level) 15 (size (floorDiv (level +ℤ pos 100) 2)))
+    cond (ltZ level (negℤ (pos 1000))) 0 (cond (ltZ (negℤ (pos 700)) level) 15 (size (floorDiv (level +ℤ pos 1000) 20)))

@@ -15,6 +15,7 @@ pub struct Bench {
     pub standby: bool,
     pub healthy: bool,
     pub signals: u8,
+    // of the signal received, in tenths of a dBm
     pub level: i16,
 }
 

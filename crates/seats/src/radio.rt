@@ -8,7 +8,7 @@ use crate::answer::DoneAnswer;
 use packet::Refusal;
 use record::Bench;
 
-// Signals received, with the level in whole dBm.
+// Signals received, with the level in tenths of a dBm.
 pub fn received(b: Bench, signals: u8, level: i16) -> Bench
     ensures { λ r. ⌜ r ≡ withSignals b signals level ⌝ }
 {

@@ -39,6 +39,9 @@ read-requires c κs = search needs
 write-requires : tie.Need-write-requires
 write-requires c κs = search needs
 
+quality-requires : tie.Need-quality-requires
+quality-requires c κs = search needs
+
 help-requires : tie.Need-help-requires
 help-requires c κs = search needs
 
@@ -88,10 +91,14 @@ returns-11 c = simp (c .before .match .keys11) (c .write .ensures)
 
 returns-12 : tie.Need-returns-12
 unfolding saidWith
-returns-12 c = simp (c .before .match .keys12) (c .help .ensures)
+returns-12 c = simp (c .before .match .keys12) (c .quality .ensures)
 
 returns-13 : tie.Need-returns-13
-returns-13 c = ap orWrong (no-call _ _ _ (c .match .rest))
+unfolding saidWith
+returns-13 c = simp (c .before .match .keys13) (c .help .ensures)
+
+returns-14 : tie.Need-returns-14
+returns-14 c = ap orWrong (no-call _ _ _ (c .match .rest))
 
 pub said-spec : {M : Type 1} → statement M
 said-spec =
@@ -108,6 +115,7 @@ said-spec =
     side-requires
     read-requires
     write-requires
+    quality-requires
     help-requires
     returns
     returns-2
@@ -121,4 +129,5 @@ said-spec =
     returns-10
     returns-11
     returns-12
-    returns-13)
+    returns-13
+    returns-14)

@@ -1,5 +1,6 @@
-use mathlib.Core.Path.{_≡_, _∙_, ap}
+use mathlib.Core.Path.{_≡_, sym, _∙_, ap}
 use native.Mathlib.Omega.{arith}
+use lib.Dec.{lit≤}
 use lib.IntN.{pos, natAbs, _+ℤ_}
 use mir.Syntax.{w16}
 use mir.Val.{toZ, ofZ}
@@ -7,7 +8,7 @@ use mir.Facts.{toZ-ofZ}
 use Rattle.base.proofs.Signed.{read-back}
 use Rattle.packet.specs.Quality.{quality}
 use Rattle.packet.proofs.Levels.{quality-between}
-use Rattle.packet.proofs.QualityLaws.{quality-most}
+use Rattle.packet.proofs.QualityLaws.{quality-most, quality-above}
 use borrow.Author.Needs.{needs}
 use Rattle.packet.proofs.level.quality.Statement.{statement}
 use Rattle.packet.proofs.level.quality.Tie as tie
@@ -17,19 +18,16 @@ unfolding quality
 returns c = simp (rw (toZ-ofZ (c .before .fits .level)) at (c .if1 .taken))
 
 returns-2 : tie.Need-returns-2
-unfolding quality
-returns-2 c =
-    let back = toZ-ofZ (c .before .before .fits .level) in
-    simp (rw back at (c .before .if1 .left), rw back at (c .if2 .taken))
+returns-2 c = sym (quality-above _ _ (lit≤ tt) (rw (toZ-ofZ (c .before .before .fits .level)) at (c .if2 .taken)))
 
-floor-half-requires : tie.Need-floor-half-requires
-floor-half-requires c κs = search needs
+floor-twentieth-requires : tie.Need-floor-twentieth-requires
+floor-twentieth-requires c κs = search needs
 
 -- the machine's sum is the quality
-sum : (c : tie.After-floor-half) → toZ w16 (ofZ w16 (c .floor-half .result)) +ℤ pos 50 ≡ pos (quality (c .before .before .before .args .level))
+sum : (c : tie.After-floor-twentieth) → toZ w16 (ofZ w16 (c .floor-twentieth .result)) +ℤ pos 50 ≡ pos (quality (c .before .before .before .args .level))
 sum c =
     let back = toZ-ofZ (c .before .before .before .fits .level) in
-    rw (read-back w16 (c .floor-half .result) (c .floor-half .ok), c .floor-half .ensures, back)
+    rw (read-back w16 (c .floor-twentieth .result) (c .floor-twentieth .ok), c .floor-twentieth .ensures, back)
     (quality-between (c .before .before .before .args .level) (rw back at (c .before .before .if1 .left)) (rw back at (c .before .if2 .left)))
 
 add-result : tie.Need-add-result
@@ -43,4 +41,4 @@ returns-3 c = ap natAbs (toZ-ofZ (add-result c) ∙ sum c)
 
 pub quality-spec : {M : Type 1} → statement M
 quality-spec =
-    tie.close (tie.spec returns returns-2 floor-half-requires add-result cast-result returns-3)
+    tie.close (tie.spec returns returns-2 floor-twentieth-requires add-result cast-result returns-3)
