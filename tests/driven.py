@@ -146,8 +146,8 @@ class Random:
         return f"close {self.seat()}"
 
     def level(self):
-        ends = [0, -1001, -1000, -980, -850, -701, -700, -699, 32767, -32768, 32768, -32769]
-        return self.r.choice(ends + 6 * [self.r.randrange(-1200, -599)])
+        some = [0, -1001, -1000, -980, -850, -701, -700, -699, 32767, -32768, 32768, -32769]
+        return self.r.choice(some + 6 * [self.r.randrange(-1200, -599)])
 
     def received(self):
         return f"received {some_number(self.r, 255)} {self.level()}"

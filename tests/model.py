@@ -60,7 +60,7 @@ def try_levels():
     # "P quality: -101 gives 0, -99 gives 0, -98 gives 1, -71 gives 14, -70 gives 15.", in tenths:
     # 02: "01's quality cases change with it."
     assert [quality(level) for level in (-1010, -990, -980, -710, -700)] == [0, 0, 1, 14, 15]
-    # 02: "0 below -1000, 15 above -700"; -981 and -680: the last level before the first step, and where a sixteenth would be
+    # 02: "0 below -1000, 15 above -700"; -981 and -680: the last level before the first step, and where a quality of 16 would begin
     ends = {-32768: 0, -1001: 0, -1000: 0, -981: 0, -701: 14, -699: 15, -680: 15, 32767: 15}
     assert {level: quality(level) for level in ends} == ends
 

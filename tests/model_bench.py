@@ -1,4 +1,4 @@
-"""Document 01's bench: its calls, who is on the air, reports. Part of the model, see model.py."""
+"""Document 01's bench, levels as in 02's third request: its calls, who is on the air, reports. Part of the model, see model.py."""
 
 from dataclasses import dataclass
 

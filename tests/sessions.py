@@ -3,7 +3,7 @@
 
   tests/sessions.py [DIR]    writes DIR/stdin and DIR/stdout; without DIR those of crates/console
 
-Sessions stand end to end; each has a title and begins with its set-up. The answers are worked out from 01 by
+Sessions stand end to end; each has a title and begins with its set-up. The answers are worked out from 01 and 02 by
 tests/model.py, which shares no code with the library. What a line is there to show is also written here by hand
 and asserted: a slip in the model shows when the sessions are made. tests/driven.py has what is too long for this file.
 """

@@ -8,11 +8,8 @@ STEPS = (
     (-980, 1), (-960, 2), (-940, 3), (-920, 4), (-900, 5), (-880, 6), (-860, 7), (-840, 8),
     (-820, 9), (-800, 10), (-780, 11), (-760, 12), (-740, 13), (-720, 14), (-700, 15),
 )
-# -680 is where a sixteenth step would be; -85 is a level in whole dBm, now -8.5 dBm
-ENDS = (
-    (-32768, 0), (-1001, 0), (-1000, 0), (-999, 0), (-701, 14), (-700, 15), (-699, 15),
-    (-681, 15), (-680, 15), (-85, 15), ("-0", 15), (0, 15), (32767, 15),
-)
+# -680 is where a quality of 16 would begin; -85 is -8.5 dBm now
+ENDS = ((-32768, 0), (-1001, 0), (-1000, 0), (-999, 0), (-699, 15), (-681, 15), (-680, 15), (-85, 15), (0, 15), (32767, 15))
 
 
 def asks(s, level, quality):
@@ -32,8 +29,7 @@ def steps(s):
 def told(s):
     s.session("02: a report tells what quality answers for the level last received", SINGLE)
     s.open("1")
-    some = ((-1001, 0), (-981, 0), (-980, 1), (-841, 7), (-840, 8), (-721, 13), (-720, 14), (-701, 14), (-700, 15), (-32768, 0), (32767, 15))
-    for level, quality in some:
+    for level, quality in ((-961, 1), (-960, 2), (-841, 7), (-721, 13), (-720, 14)):
         s.say(f"received 1 {level}", "ok")
         asks(s, level, quality)
         s.told(1, squ=1, sqi=(quality, RSSI))

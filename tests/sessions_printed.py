@@ -36,7 +36,7 @@ def printed_examples(s):
     s.packet(3, sequence=10)
     s.packet(3, "refused 20 cause 0", sequence=32778)
 
-    s.session("01, levels in tenths of a dBm (02): RX off, SQU, SCT, -850: 10 09 11 38; quality at the ends of its steps", SINGLE)
+    s.session("01, its level in tenths: RX off, SQU, SCT, -850: 10 09 11 38; quality around both ends", SINGLE)
     s.open("3")
     s.say("received 2 -850", "ok")
     s.say("report 3 0 - 20", "0167000110091138")

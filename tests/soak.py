@@ -2,7 +2,7 @@
 """Runs long random sessions of well-formed calls on the console and checks what needs no second implementation:
 no `error:` line; the same session twice gives the same answers; a refused call changes nothing (the session without
 its refused calls answers the same); a type 4 item is stepped over (the session without them answers the same); a report
-tells the quality that `quality` answers for the level last received; and demand 3 (the session without its lesson calls
+tells a quality exactly while a signal is received, and the one that `quality` answers for its level; and demand 3 (the session without its lesson calls
 answers live seats the same, but for what the demand allows).
 
   tests/soak.py [LINES] [SEED]     LINES a session, 20,000 if not given; without SEED a session for each choice of modes
@@ -123,14 +123,16 @@ def fail(what, lines, number):
 
 
 def told_qualities(lines, first):
-    """Each report with an SQI item, which in plain form stands first: its number, its quality and the level last received."""
-    level = "-"
+    """Each report while a signal is received: its number, its quality and the level last received. SQI, the first item, is in no other."""
+    signals = level = "0"
     for i, (line, answer) in enumerate(zip(lines, first)):
         words = line.split()
         if words[0] == "received":
-            level = words[2]
+            signals, level = words[1:]
         if words[0] == "report" and answer.startswith("ok "):
             item, value = bytes.fromhex(answer.split()[2])[18:20]
+            if (item == 0x11) != (signals != "0"):
+                fail("an SQI item without a signal, or a signal without it", lines, i)
             if item == 0x11:
                 yield i, value >> 3, level
 

@@ -1,6 +1,6 @@
--- What a test made of others says of each of them.
+-- What a test made of others says of each of them; facts in a row.
 use Prim.Native.Nat.{ℕ, _≤_}
-use mathlib.Core.Path.{_≡_, refl, sym}
+use mathlib.Core.Path.{_≡_, refl}
 use mathlib.Core.Bool.{Bool, true, false, cond, _&&_, _||_}
 use lib.Dec.{lit≤}
 use Rattle.base.specs.Bytes.{bit}
@@ -59,12 +59,6 @@ and-rest-left false b e h = refl
 pub or-rest : (a b : Bool) → a || b ≡ true → a ≡ false → b ≡ true
 or-rest true b e h = cc
 or-rest false b e h = e
-
--- tests that hold in the same cases
-pub alike : (a b : Bool) → (a ≡ true → b ≡ true) → (b ≡ true → a ≡ true) → a ≡ b
-alike true b f g = sym (f refl)
-alike false true f g = g refl
-alike false false f g = refl
 
 -- facts one behind the other, for statements over each entry of a list
 infixr 20 _and_

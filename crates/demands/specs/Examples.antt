@@ -1,5 +1,5 @@
--- 01, Bench examples: "Marked P: to be proved, as one table under a single theorem." 02, request 3: its "quality cases change" to
--- tenths of a dBm.
+-- 01, Bench examples: "Marked P: to be proved, as one table under a single theorem."
+-- 02, request 3: "01's quality cases change with it": levels here are in tenths of a dBm.
 use Prim.Native.Nat.{ℕ, _/_}
 use mathlib.Core.Path.{_≡_}
 use mathlib.Core.Bool.{Bool, true, false}
@@ -62,9 +62,9 @@ table =
     ∷ tx (0x8F ∷ 0x51 ∷ 0x51 ∷ 0x80 ∷ []) (txSays emergency 61 false true climax.Absent side.Standby)
     -- "Normal, id 2, delay 12 ms, main: 20 81 21 86 51 00 00 00"
     ∷ tx (0x20 ∷ 0x81 ∷ 0x21 ∷ 0x86 ∷ 0x51 ∷ 0x00 ∷ 0x00 ∷ 0x00 ∷ []) (txSays normal 2 false false (climax.Is (12 / 2)) side.Main)
-    -- "RX off, SQU, SCT, −85 dBm: 10 09 11 38"
+    -- "RX off, SQU, SCT, −85 dBm: 10 09 11 38", in tenths
     ∷ rx (0x10 ∷ 0x09 ∷ 0x11 ∷ 0x38 ∷ []) (rxSays off 0 true false false true (sqi.Is (quality (minus 850)) rssi) side.Absent)
-    -- "−101 gives 0, −99 gives 0, −98 gives 1, −71 gives 14, −70 gives 15."
+    -- "−101 gives 0, −99 gives 0, −98 gives 1, −71 gives 14, −70 gives 15.", in tenths
     ∷ level (minus 1010) 0
     ∷ level (minus 990) 0
     ∷ level (minus 980) 1

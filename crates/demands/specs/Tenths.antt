@@ -12,6 +12,7 @@ unfoldable pub wholeQuality : ℤ → ℕ
 wholeQuality dBm =
     cond (ltZ dBm (negℤ (pos 100))) 0 (cond (ltZ (negℤ (pos 70)) dBm) 15 (size (floorDiv (dBm +ℤ pos 100) 2)))
 
--- Of every whole level. Those "that fit" are -3276 to 3276: their tenfold is a 16-bit signed number.
+-- Ten times a whole level is that level in tenths, and its quality is the one that 01 gave. The levels "that fit" are -3276 to
+-- 3276, whose tenfold is a 16-bit signed number; the statement needs no bound.
 abbrev pub Tenths : Type 0
 Tenths = (dBm : ℤ) → quality (pos 10 *ℤ dBm) ≡ wholeQuality dBm

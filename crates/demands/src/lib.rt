@@ -1,6 +1,6 @@
 // No code: the theorems that a reader comes for, each stated in a file of specs/ named after it and proved in proofs/.
 // Demand 1: ExactAll, over Exact and ExactCalls. Demand 2: Inversion, Plain, RoundTrip, Rewrite, SteppedOver, Examples, WrongBenches;
-// of the quality of a level Tenths and Steps.
+// of the quality of a level: Tenths, Steps.
 // Demand 3: Apart, where to start; LessonsSeen, its exceptions; Undisturbed, what a teacher can quote of it.
 // The bench: Kept, what it keeps through every call; SeatAfter, what one call does to one seat.
 // The code: StepOfCode and BothWays, its calls, readers and writers do as said; Tight, its promises leave one answer.

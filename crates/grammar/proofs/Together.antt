@@ -26,11 +26,12 @@ pub is-then : {A B : Type 0} (a : A) (f : A → Said B) → _>>=_ (Is a) f ≡ f
 unfolding _>>=_
 is-then a f = refl
 
--- What holds of each of the first k numbers and of every number behind them holds of every number.
+-- of each of the first k numbers, and of every number behind them
 abbrev Each : ℕ → (ℕ → Type 0) → Type 0
 Each zero P = (n : ℕ) → P n
 Each (suc k) P = P 0 × Each k (λ (n : ℕ). P (suc n))
 
+-- what holds of each of them holds of every number
 by-place : (k : ℕ) (P : ℕ → Type 0) → Each k P → (n : ℕ) → P n
 by-place zero P rest n = rest n
 by-place (suc k) P (first, rest) zero = first

@@ -42,7 +42,7 @@ floor-fits w (negsuc n) k f = record { sfits = omega (arith, div-le-self n k) }
 pub below-fits : (w : Width) (x : ℤ) (k : ℕ) → leZ (pos 0) x ≡ false → SFits w x → SFits w (quotZ (x +ℤ pos 1) (pos k) -ℤ pos 1)
 below-fits w x k e f = rw (floor-below x k e) (floor-fits w x k f)
 
--- between the ends the steps are counted from zero: 50 of them below it
+-- between the ends the steps are counted from -1000 on, which is 50 steps below zero
 pub quality-between : (level : ℤ) → ltZ level (negℤ (pos 1000)) ≡ false → ltZ (negℤ (pos 700)) level ≡ false → floorDiv level 20 +ℤ pos 50 ≡ pos (quality level)
 quality-between (pos n) p q = cc
 quality-between (negsuc n) p q =

@@ -11,7 +11,7 @@ use Rattle.base.specs.Order.{size}
 use Rattle.base.proofs.Signed.{by-difference}
 use Rattle.packet.specs.Quality.{floorDiv, quality}
 
--- Of a level below zero, level -1 being n = 0. Below the lower end no step is left, so it needs no test.
+-- Of a level below zero, level -1 being n = 0. Below the lower end 999 - n is 0, so that end needs no test.
 pub below-zero : (n : ℕ) → quality (negsuc n) ≡ cond (ltb n 699) 15 ((999 - n) / 20)
 unfolding quality
 below-zero n = by-ends (ltb 999 n) (ltb n 699) refl refl
