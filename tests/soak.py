@@ -2,8 +2,8 @@
 """Runs long random sessions of well-formed calls on the console and checks what needs no second implementation:
 no `error:` line; the same session twice gives the same answers; a refused call changes nothing (the session without
 its refused calls answers the same); a type 4 item is stepped over (the session without them answers the same); a report
-tells a quality exactly while a signal is received, and the one that `quality` answers for its level; and demand 3 (the session without its lesson calls
-answers live seats the same, but for what the demand allows).
+tells a quality exactly while a signal is received, and the one that `quality` answers for its level; and demand 3 (the
+session without its lesson calls answers live seats the same, but for what the demand allows).
 
   tests/soak.py [LINES] [SEED]     LINES a session, 20,000 if not given; without SEED a session for each choice of modes
 
