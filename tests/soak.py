@@ -2,8 +2,9 @@
 """Runs long random sessions of well-formed calls on the console and checks what needs no second implementation:
 no `error:` line; the same session twice gives the same answers; a refused call changes nothing (the session without
 its refused calls answers the same); a type 4 item is stepped over (the session without them answers the same); a report
-tells a quality exactly while a signal is received, and the one that `quality` answers for its level; and demand 3 (the
-session without its lesson calls answers live seats the same, but for what the demand allows).
+tells a quality exactly while a signal is received, and the one that `quality` answers for its level; ticks add up (the
+session with two ticks for each answers the same, but for a seat due in the first and closed in the second); and demand 3
+(the session without its lesson calls answers live seats the same, but for what the demand allows).
 
   tests/soak.py [LINES] [SEED]     LINES a session, 20,000 if not given; without SEED a session for each choice of modes
 
@@ -90,9 +91,13 @@ def blotted(report):
     return data.hex()
 
 
+def seat_sets(ticked):
+    """The seats closed and due: `ok closed=SEATS due=SEATS`."""
+    return [set(part.partition("=")[2]) - {"-"} for part in ticked.split()[1:]]
+
+
 def live_seats(ticked):
-    """The live seats closed and due: `ok closed=SEATS due=SEATS`."""
-    return [set(part.partition("=")[2]) - set(LESSONS + "-") for part in ticked.split()[1:]]
+    return [seats - set(LESSONS) for seats in seat_sets(ticked)]
 
 
 def ptt_type(packet):
@@ -148,6 +153,37 @@ def hold_qualities(lines, first):
     return len(told)
 
 
+def in_two(r, line):
+    """A tick that is not refused, as two ticks; any other line as it is."""
+    kind, *words = line.split()
+    ms = int(words[0]) if kind == "tick" else 1001
+    if ms > 1000:
+        return [line]
+    first = r.randint(0, ms)
+    return [f"tick {first}", f"tick {ms - first}"]
+
+
+def hold_ticks(lines, first, seed):
+    """02, request 4. Answers how many ticks were made two, and in how many of them the one difference showed."""
+    r = random.Random(seed)
+    parts = [in_two(r, line) for line in lines]
+    given = iter(answers([part for two in parts for part in two]))
+    ticks = differing = 0
+    for i, two in enumerate(parts):
+        told = [next(given) for _ in two]
+        if len(told) == 1:
+            if told[0] != first[i]:
+                fail("two ticks before it, where there was one, changed the answer", lines, i)
+            continue
+        (closed_1, due_1), (closed_2, due_2) = map(seat_sets, told)
+        difference = due_1 & closed_2
+        if [closed_1 | closed_2, (due_1 | due_2) - difference] != seat_sets(first[i]):
+            fail("two ticks in its place told other seats", lines, i)
+        ticks += 1
+        differing += bool(difference)
+    return ticks, differing
+
+
 def soak(count, seed):
     lines, without = session(count, seed)
     first = answers(lines)
@@ -167,6 +203,7 @@ def soak(count, seed):
         if answer != first[i]:
             fail("a type 4 item in it or before it changed the answer", lines, i)
     told = hold_qualities(lines, first)
+    ticks, merged = hold_ticks(lines, first, seed)
     live = [i for i, line in enumerate(lines) if not names_a_lesson(line)]
     alone = answers([lines[i] for i in live])
     for i, answer in zip(live, alone):
@@ -175,6 +212,7 @@ def soak(count, seed):
     differing = sum(first[i] != answer for i, answer in zip(live, alone))
     refused = len(first) - len(kept)
     print(f"seed {seed}: {len(lines)} calls, {refused} refused; {len(without)} type 4 items left out; {told} reports with a quality; "
+          f"{ticks} ticks made two, {merged} with a seat due in the first and closed in the second; "
           f"{len(lines) - len(live)} lesson calls left out, {differing} live answers differed as demand 3 allows")
 
 

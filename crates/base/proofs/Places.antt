@@ -1,8 +1,8 @@
 -- An element of a list by its place.
 use Prim.Native.Nat.{ℕ, zero, suc}
-use mathlib.Core.Path.{_≡_, refl, ap}
-use mathlib.Core.List.{List, [], _∷_}
-use lib.ListN.{getD, set, replicate}
+use mathlib.Core.Path.{_≡_, refl, sym, ap, _∙_}
+use mathlib.Core.List.{List, [], _∷_, map}
+use lib.ListN.{getD, set, replicate, List·getD-map}
 
 module _ {A : Type 0} (d : A) where
   -- a place of a changed list holds the new element or the old one
@@ -18,3 +18,7 @@ module _ {A : Type 0} (d : A) where
   all-alike zero k = refl
   all-alike (suc n) zero = refl
   all-alike (suc n) (suc k) = all-alike n k
+
+-- of a list whose elements were all changed alike, where the default is changed alike too
+pub map-place : {A B : Type 0} (f : A → B) (a : A) {b : B} → f a ≡ b → (l : List A) (k : ℕ) → getD (map f l) k b ≡ f (getD l k a)
+map-place f a e l k = ap (getD (map f l) k) (sym e) ∙ List·getD-map f l k a

@@ -1,7 +1,7 @@
 -- What a test made of others says of each of them; facts in a row.
 use Prim.Native.Nat.{ℕ, _≤_}
 use mathlib.Core.Path.{_≡_, refl}
-use mathlib.Core.Bool.{Bool, true, false, cond, _&&_, _||_}
+use mathlib.Core.Bool.{Bool, true, false, cond, not, _&&_, _||_}
 use lib.Dec.{lit≤}
 use Rattle.base.specs.Bytes.{bit}
 
@@ -21,6 +21,14 @@ pub and-none : (a : Bool) → a && false ≡ false
 and-none true = refl
 and-none false = refl
 
+pub and-not : (a : Bool) → a && not a ≡ false
+and-not true = refl
+and-not false = refl
+
+pub or-none : (a : Bool) → a || false ≡ a
+or-none true = refl
+or-none false = refl
+
 pub or-left : (a b : Bool) → a || b ≡ false → a ≡ false
 or-left true b e = e
 or-left false b e = refl
@@ -28,6 +36,14 @@ or-left false b e = refl
 pub or-right : (a b : Bool) → a || b ≡ false → b ≡ false
 or-right true b e = cc
 or-right false b e = e
+
+-- a choice whose test is known
+module _ {A : Type 0} {t : Bool} (a b : A) where
+  pub choice-true : t ≡ true → a ≡ cond t a b
+  choice-true e = rw e
+
+  pub choice-false : t ≡ false → b ≡ cond t a b
+  choice-false e = rw e
 
 -- a function of a choice is a choice of its values
 pub push : {A B : Type 0} (f : A → B) (t : Bool) (a b : A) → f (cond t a b) ≡ cond t (f a) (f b)

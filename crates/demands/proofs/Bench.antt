@@ -5,3 +5,5 @@ pub mod Order
 pub mod KeptSeats
 pub mod Kept
 pub mod KeptLaws
+pub mod TicksAddUp
+pub mod OneDifference

@@ -12,8 +12,10 @@ pub mod Tenths
 pub mod Steps
 pub mod SeatAfter
 pub mod Kept
+pub mod TicksAddUp
 pub mod Apart
 pub mod LessonsSeen
+pub mod OneDifference
 pub mod Undisturbed
 pub mod WrongBenches
 pub mod Tight

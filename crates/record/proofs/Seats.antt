@@ -5,10 +5,10 @@ use mathlib.Core.Bool.{Bool, true, false, cond, true≢false}
 use mathlib.Core.List.{List, [], _∷_, map}
 use native.Mathlib.Omega.{arith}
 use lib.Dec.{ltb, eqb}
-use lib.ListN.{length, getD, set, replicate, List·getD-map}
+use lib.ListN.{length, getD, set, replicate}
 use lib.Seq.{getD-set-same, getD-set-other}
 use borrow.Author.Tests.{ltb-false, eqb-true, eqb-false}
-use Rattle.base.proofs.Places.{all-alike}
+use Rattle.base.proofs.Places.{all-alike, map-place}
 use Rattle.base.proofs.Truths.{or-left, or-right}
 use Rattle.record.specs.Record.{noSuchSeat, placeOf, closedSeat, seatOf, lesson}
 use Rattle.record.specs.declared.setup.Setup.{Setup}
@@ -81,12 +81,9 @@ pub seat-changed : (change : Seat → Seat) → change closedSeat ≡ closedSeat
 unfolding seatOf
 seat-changed change e ss n = by-case (noSuchSeat n)
   where
-    at : getD (map change ss) (n - 1) closedSeat ≡ change (getD ss (n - 1) closedSeat)
-    at = ap (getD (map change ss) (n - 1)) (sym e) ∙ List·getD-map change ss (n - 1) closedSeat
-
     by-case : (none : Bool) → cond none closedSeat (getD (map change ss) (n - 1) closedSeat) ≡ change (cond none closedSeat (getD ss (n - 1) closedSeat))
     by-case true = sym e
-    by-case false = at
+    by-case false = map-place change closedSeat e ss (n - 1)
 
 pub seat-of-eight-closed : (n : ℕ) → seatOf (replicate 8 closedSeat) n ≡ closedSeat
 seat-of-eight-closed n = by-case (noSuchSeat n) refl

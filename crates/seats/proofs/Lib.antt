@@ -1,5 +1,6 @@
 pub mod Accepted
 pub mod OpeningLaws
 pub mod TickingLaws
+pub mod TwoTicks
 pub mod RadioLaws
 pub mod TellApart

@@ -6,14 +6,14 @@ use mathlib.Core.List.{List, map}
 use native.Mathlib.Nat.{mod-lt}
 use native.Mathlib.Omega.{arith}
 use borrow.Author.Needs.{needs}
-use borrow.Author.Tests.{eq-eqb, ne-eqb, leb-false, lt-leb, lt-ltb, le-ltb}
+use borrow.Author.Tests.{eq-eqb, ne-eqb, leb-false, le-leb, lt-leb, lt-ltb, le-ltb}
 use mir.Syntax.{w16}
 use mir.Val.{Fits}
 use Rattle.base.proofs.Loops.{fill-more, fill-done}
-use Rattle.base.proofs.Truths.{and-left, and-right}
+use Rattle.base.proofs.Truths.{and-left, and-right, choice-true, choice-false}
 use Rattle.packet.specs.Refusals.{accepted, refused}
 use Rattle.record.specs.Record.{closedSeat, settled}
-use Rattle.seats.specs.Ticking.{nothingLeft, fallsSilent, phaseAfter, isDue, aged, tickedSeat, longestTick, tickRefusals, tickSaid, noSeats, tickSets, tickedBench}
+use Rattle.seats.specs.Ticking.{nothingLeft, fallsSilent, isDue, aged, tickedSeat, longestTick, tickRefusals, tickSaid, noSeats, tickSets, tickedBench}
 use Rattle.record.specs.declared.seat.Seat.{Seat}
 use Rattle.record.specs.declared.whole.Bench.{Bench}
 use Rattle.seats.specs.declared.ticking.SeatSets.{SeatSets}
@@ -22,26 +22,22 @@ use Rattle.seats.specs.declared.ticking.SeatSets.{SeatSets}
 pub rest-fits : (a period : ℕ) → (period ≡ 0 → ⊥) → period < 65536 → Fits w16 (a % period)
 rest-fits a p h k = let some : zero < p = omega (arith, h) in record { fits = omega (arith, mod-lt a some) }
 
-module _ (ms period phase : ℕ) where
-  pub phase-none : period ≡ 0 → 0 ≡ phaseAfter ms period phase
-  phase-none e = simp (eq-eqb _ _ e)
-
-  pub phase-rest : (period ≡ 0 → ⊥) → (phase + ms) % period ≡ phaseAfter ms period phase
-  phase-rest h = simp (ne-eqb _ _ h)
-
 module _ (ms : ℕ) (s : Seat) where
   module _ (t : Bool) (silent : t ≡ fallsSilent ms s) where
     pub falls-closed : t ≡ true → closedSeat ≡ tickedSeat ms s
     unfolding fallsSilent tickedSeat
     falls-closed p = simp (and-left (s .opened) (nothingLeft ms s) (sym silent ∙ p), and-right (s .opened) (nothingLeft ms s) (sym silent ∙ p))
 
-    pub time-left : s .opened ≡ true → t ≡ false → ms < s .left
+    something-left : s .opened ≡ true → t ≡ false → nothingLeft ms s ≡ false
     unfolding fallsSilent
-    time-left o p = leb-false _ _ (sym (simp o at silent) ∙ p)
+    something-left o p = sym (simp o at silent) ∙ p
+
+    pub time-left : s .opened ≡ true → t ≡ false → ms < s .left
+    time-left o p = let h = something-left o p in omega (arith, leb-false)
 
     pub open-ages : (next : Seat) → s .opened ≡ true → t ≡ false → next ≡ aged ms s → next ≡ tickedSeat ms s
     unfolding tickedSeat
-    open-ages next o p e = simp (e, o, lt-leb _ _ (time-left o p))
+    open-ages next o p e = simp (e, o, something-left o p)
 
   pub closed-untouched : s .opened ≡ false → s ≡ tickedSeat ms s
   unfolding tickedSeat
@@ -54,7 +50,7 @@ ticked-cases P ms s closes ages stays = by-tests (s .opened) (nothingLeft ms s) 
   where
     by-tests : (opened silent : Bool) → s .opened ≡ opened → nothingLeft ms s ≡ silent → P (cond opened (cond silent closedSeat (aged ms s)) s)
     by-tests true true e h = closes
-    by-tests true false e h = ages e (leb-false (s .left) ms h)
+    by-tests true false e h = ages e (omega (arith, leb-false))
     by-tests false silent e h = stays
 
 -- ---- the whole tick
@@ -84,4 +80,4 @@ module _ (b : Bench) (ms : ℕ) (h : ms ≤ longestTick) where
   pub tick-moves : (next : Bench) → next ≡ tickedBench b ms → next ≡ settled (tickSaid ms) b (tickedBench b ms)
   tick-moves next e = rw (← tick-done) e
 
-pub ruleset tickingCases = (rest-fits, phase-none, phase-rest, falls-closed, time-left, open-ages, closed-untouched, tick-24, tick-none, tick-stays, tick-done, tick-tells, tick-moves, fill-more, fill-done, needs)
+pub ruleset tickingCases = (rest-fits, choice-true, choice-false, eq-eqb, ne-eqb, le-leb, lt-leb, falls-closed, time-left, open-ages, closed-untouched, tick-24, tick-none, tick-stays, tick-done, tick-tells, tick-moves, fill-more, fill-done, needs)

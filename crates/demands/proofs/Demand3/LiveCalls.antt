@@ -4,7 +4,8 @@ use mathlib.Core.Path.{_≡_, refl, sym, ap, ap₂, subst, _∙_}
 use mathlib.Core.Bool.{Bool, true, false, not, _&&_}
 use mathlib.Core.List.{List, [], _∷_, map}
 use lib.Dec.{ltb, eqb}
-use lib.ListN.{getD, List·getD-map}
+use lib.ListN.{getD}
+use Rattle.base.proofs.Places.{map-place}
 use Rattle.packet.specs.Packet.{test}
 use Rattle.packet.specs.Refusals.{Case, NoCase, accepted, judged, mapped}
 use Rattle.record.specs.Record.{seatOf, seatNumbers, noSuchSeat, closedSeat, lesson, withSide}
@@ -94,17 +95,14 @@ flags-live : (setup : Setup) (seats : List Seat) (f : Seat → Bool) → f close
 unfolding amongLive
 flags-live setup seats f shut = seats-alike _ _ (λ n real. by-seat n real (lesson setup n) refl)
   where
-    at : (l : List Seat) (k : ℕ) → getD (map f l) k false ≡ f (getD l k closedSeat)
-    at l k = ap (λ (d : Bool). getD (map f l) k d) (sym shut) ∙ List·getD-map f l k closedSeat
-
     by-seat : (n : ℕ) → noSuchSeat n ≡ false → (t : Bool) → lesson setup n ≡ t
         → not (lesson setup n) && getD (map f (liveSeats setup seats)) (n - 1) false ≡ not (lesson setup n) && getD (map f seats) (n - 1) false
     by-seat n real true e = rw e
     by-seat n real false e =
         rw e
-        (at (liveSeats setup seats) (n - 1)
+        (map-place f closedSeat shut (liveSeats setup seats) (n - 1)
         ∙ ap f (blank-elsewhere closedSeat (setup .lesson) seats (n - 1) (lesson-flag setup n real ∙ e))
-        ∙ sym (at seats (n - 1)))
+        ∙ sym (map-place f closedSeat shut seats (n - 1)))
 
 pub match-tick : (b : Bench) (ms : ℕ) → Match (b .setup) (tick ms) (step b (tick ms)) (step (low b) (tick ms))
 unfolding step tickSaid

@@ -1,0 +1,60 @@
+-- 02, request 4: "The timer card sometimes merges two ticks. Prove it does no harm: for a + b at most 1000, ticking a then b leaves
+-- the same bench as ticking a + b. The closed seats are the same taken together, and so are the due seats among those still open.
+-- A tick of 0 changes nothing. A seat that was due in the first and closed in the second is the one difference; say so."
+use Prim.Native.Nat.{ℕ, _+_, _-_, _≤_, _<_}
+use mathlib.Core.Path.{_≡_}
+use mathlib.Core.Bool.{Bool, true, false, not, _&&_, _||_}
+use mathlib.Core.List.{List, [], _∷_, map}
+use mathlib.Core.Logic.{_↔_}
+use lib.ListN.{length, getD}
+use Rattle.base.specs.Lists.{howMany}
+use Rattle.packet.specs.Refusals.{accepted}
+use Rattle.record.specs.Record.{noSuchSeat, seatOf}
+use Rattle.seats.specs.Ticking.{longestTick, tooLong, noSeats, tickSets}
+use Rattle.bench.specs.Step.{tick, ticked, step, after}
+use Rattle.record.specs.declared.seat.Seat.{Seat}
+use Rattle.record.specs.declared.whole.Bench.{Bench}
+use Rattle.demands.specs.Kept.{Kept}
+
+-- What is told of one seat, by the first tick (₁), by the second (₂) and by the merged one; and whether it is open afterwards.
+pub record ToldAlike (closed₁ closed₂ closed due₁ due₂ due isOpen : Bool) : Type 0 where
+  pub together : closed₁ || closed₂ ≡ closed
+  pub among-open : isOpen ≡ true → due₁ || due₂ ≡ due
+  -- the one difference: due in one of the two and not in the merged one, exactly if due in the first and closed in the second
+  pub one-difference : (due₁ || due₂) && not due ≡ due₁ && closed₂
+  pub none-alone : due && not (due₁ || due₂) ≡ false
+
+-- Is seat n in the set? (A tick answers sets of seats as flags, seat 1 first.)
+unfoldable pub isIn : (set : List Bool) (n : ℕ) → Bool
+isIn set n = not (noSuchSeat n) && getD set (n - 1) false
+
+-- A tick of x and then one of y, and the merged one: the same bench in every field, and the same told of each seat, but for the one difference.
+pub record TwoTicks (b : Bench) (x y : ℕ) : Type 0 where
+  pub bench : after b (tick x ∷ tick y ∷ []) ≡ after b (tick (x + y) ∷ [])
+  pub seats : (n : ℕ) →
+      let first = tickSets b x in
+      let second = tickSets (after b (tick x ∷ [])) y in
+      let merged = tickSets b (x + y) in
+      ToldAlike (isIn (first .closed) n) (isIn (second .closed) n) (isIn (merged .closed) n)
+      (isIn (first .due) n) (isIn (second .due) n) (isIn (merged .due) n) (seatOf (after b (tick (x + y) ∷ []) .seats) n .opened)
+
+unfoldable pub time : List ℕ → ℕ
+time [] = 0
+time (ms ∷ more) = ms + time more
+
+abbrev pub ZeroChangesNothing : Bench → Type 0
+ZeroChangesNothing b = step b (tick 0) ≡ record { answer = accepted (ticked (noSeats .closed) (noSeats .due)); bench = b }
+
+abbrev pub InTime : Seat → Type 0
+InTime s = s .opened ≡ true → (1 ≤ s .left) × (s .phase < s .period)
+
+pub record TicksAddUp : Type 0 where
+  -- Of any bench, whatever it holds: what a tick of at most 1000 ms answers, and that two of them may be merged.
+  pub told : (b : Bench) (ms : ℕ) → ms ≤ longestTick → step b (tick ms) .answer ≡ accepted (ticked (tickSets b ms .closed) (tickSets b ms .due))
+  pub two-ticks : (b : Bench) (x y : ℕ) → x + y ≤ longestTick → TwoTicks b x y
+  -- The same time in any ticks, some of them and none refused, leaves the same bench: so they may be merged at will.
+  pub same-time : (b : Bench) (x y : ℕ) (xs ys : List ℕ) → howMany tooLong (x ∷ xs) ≡ 0 → howMany tooLong (y ∷ ys) ≡ 0
+      → time (x ∷ xs) ≡ time (y ∷ ys) → after b (map tick (x ∷ xs)) ≡ after b (map tick (y ∷ ys))
+  -- Of every bench that calls lead to (Kept); and of any bench of eight seats exactly if each that is open is in time.
+  pub zero : (b : Bench) → Kept b → ZeroChangesNothing b
+  pub zero-exactly : (b : Bench) → length (b .seats) ≡ 8 → ZeroChangesNothing b ↔ ((n : ℕ) → InTime (seatOf (b .seats) n))
