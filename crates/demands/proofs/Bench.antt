@@ -1,4 +1,4 @@
--- What the bench keeps through every call, and what one call does to one seat. In the order in which they build on each other.
+-- What the bench keeps through every call, what one call does to one seat, and that ticks add up. In the order in which they build on each other.
 pub mod Runs
 pub mod SeatAfter
 pub mod Order

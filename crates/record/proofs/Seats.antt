@@ -2,12 +2,12 @@
 use Prim.Native.Nat.{ℕ, zero, suc, _-_, _≤_, _<_}
 use mathlib.Core.Path.{_≡_, refl, ap, sym, _∙_}
 use mathlib.Core.Bool.{Bool, true, false, cond, true≢false}
-use mathlib.Core.List.{List, [], _∷_, map}
+use mathlib.Core.List.{List, map}
 use native.Mathlib.Omega.{arith}
 use lib.Dec.{ltb, eqb}
 use lib.ListN.{length, getD, set, replicate}
 use lib.Seq.{getD-set-same, getD-set-other}
-use borrow.Author.Tests.{ltb-false, eqb-true, eqb-false}
+use borrow.Author.Tests.{ltb-false, le-ltb, eqb-true, eqb-false, ne-eqb}
 use Rattle.base.proofs.Places.{all-alike, map-place}
 use Rattle.base.proofs.Truths.{or-left, or-right}
 use Rattle.record.specs.Record.{noSuchSeat, placeOf, closedSeat, seatOf, lesson}
@@ -40,6 +40,13 @@ each-seat P h (suc (suc (suc (suc (suc (suc (suc (suc (suc n))))))))) real = pas
 pub seat-of-place : (ss : List Seat) (n : ℕ) → noSuchSeat n ≡ false → seatOf ss n ≡ getD ss (n - 1) closedSeat
 unfolding seatOf
 seat-of-place ss n e = rw e
+
+-- by its place, counted from 0
+pub seat-at : (ss : List Seat) (i : ℕ) → i < 8 → seatOf ss (suc i) ≡ getD ss i closedSeat
+seat-at ss i h =
+    let real : noSuchSeat (suc i) ≡ false = simp (ne-eqb (suc i) 0 (λ (none : suc i ≡ 0). omega arith), le-ltb 8 (suc i) h) in
+    let here : suc i - 1 ≡ i = omega arith in
+    seat-of-place ss (suc i) real ∙ ap (λ (k : ℕ). getD ss k closedSeat) here
 
 pub seat-of-none : (ss : List Seat) (n : ℕ) → noSuchSeat n ≡ true → seatOf ss n ≡ closedSeat
 unfolding seatOf

@@ -1,5 +1,5 @@
 -- The cases of a tick, as the answers of the code ask for them.
-use Prim.Native.Nat.{ℕ, zero, _+_, _%_, _<_, _≤_}
+use Prim.Native.Nat.{ℕ, zero, _%_, _<_, _≤_}
 use mathlib.Core.Path.{_≡_, refl, sym, _∙_}
 use mathlib.Core.Bool.{Bool, true, false, cond}
 use mathlib.Core.List.{List, map}
@@ -80,4 +80,6 @@ module _ (b : Bench) (ms : ℕ) (h : ms ≤ longestTick) where
   pub tick-moves : (next : Bench) → next ≡ tickedBench b ms → next ≡ settled (tickSaid ms) b (tickedBench b ms)
   tick-moves next e = rw (← tick-done) e
 
-pub ruleset tickingCases = (rest-fits, choice-true, choice-false, eq-eqb, ne-eqb, le-leb, lt-leb, falls-closed, time-left, open-ages, closed-untouched, tick-24, tick-none, tick-stays, tick-done, tick-tells, tick-moves, fill-more, fill-done, needs)
+pub ruleset phaseCases = (rest-fits, choice-true, choice-false, eq-eqb, ne-eqb, le-leb, lt-leb, needs)
+
+pub ruleset tickingCases = (falls-closed, time-left, open-ages, closed-untouched, tick-24, tick-none, tick-stays, tick-done, tick-tells, tick-moves, fill-more, fill-done, needs)

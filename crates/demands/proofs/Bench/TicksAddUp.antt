@@ -9,18 +9,18 @@ use native.Mathlib.Nat.{add-zero}
 use lib.Dec.{lit≤}
 use lib.ListN.{length, getD, replicate, length-map}
 use lib.Seq.{ext-getD}
-use borrow.Author.Tests.{le-ltb, ltb-false, ne-eqb}
+use borrow.Author.Tests.{le-ltb, ltb-false}
 use Rattle.base.specs.Bytes.{bit}
 use Rattle.base.specs.Lists.{howMany}
 use Rattle.base.proofs.Places.{all-alike, map-place}
 use Rattle.base.proofs.Truths.{and-none}
-use Rattle.packet.specs.Refusals.{Answer, accepted}
+use Rattle.packet.specs.Refusals.{accepted}
 use Rattle.record.specs.Record.{noSuchSeat, closedSeat, seatOf, withSeats}
-use Rattle.record.proofs.Seats.{seat-of-place, seat-changed}
+use Rattle.record.proofs.Seats.{seat-at, seat-changed}
 use Rattle.seats.specs.Ticking.{longestTick, tooLong, fallsSilent, isDue, tickedSeat, tickRefusals, tickSaid, noSeats, tickSets, tickedBench}
 use Rattle.seats.proofs.TickingLaws.{tick-tells}
 use Rattle.seats.proofs.TwoTicks.{ticks-add, Fate, fate, closed-together, due-among-open, one-difference, none-alone, Unmoved, in-time-unmoved, unmoved-in-time}
-use Rattle.bench.specs.Step.{tick, Said, ticked, Outcome, step, after}
+use Rattle.bench.specs.Step.{tick, ticked, Outcome, step, after}
 use Rattle.record.specs.declared.seat.Seat.{Seat}
 use Rattle.record.specs.declared.whole.Bench.{Bench}
 use Rattle.seats.specs.declared.ticking.SeatSets.{SeatSets}
@@ -131,12 +131,6 @@ module _ (b : Bench) where
   abbrev seat : (i : ℕ) → Seat
   seat i = getD (b .seats) i closedSeat
 
-  seat-numbered : (i : ℕ) → i < 8 → seatOf (b .seats) (suc i) ≡ seat i
-  seat-numbered i h =
-      let real : noSuchSeat (suc i) ≡ false = simp (ne-eqb (suc i) 0 (λ (z : suc i ≡ 0). omega arith), le-ltb 8 (suc i) h) in
-      let here : suc i - 1 ≡ i = omega arith in
-      seat-of-place (b .seats) (suc i) real ∙ ap seat here
-
   module _ (eight : length (b .seats) ≡ 8) where
     -- a list made of the seats, place by place
     by-place : {A : Type 0} (f : Seat → A) (d : A) → f closedSeat ≡ d → (l : List A) → length l ≡ 8 → ((i : ℕ) → i < 8 → f (seat i) ≡ getD l i d)
@@ -157,7 +151,7 @@ module _ (b : Bench) where
         (ap (withSeats b) (by-place (tickedSeat 0) closedSeat refl (b .seats) eight (λ i h. unmoved i h .same)))
       where
         unmoved : (i : ℕ) → i < 8 → Unmoved (seat i)
-        unmoved i h = in-time-unmoved (seat i) (subst InTime (seat-numbered i h) (in-time (suc i)))
+        unmoved i h = in-time-unmoved (seat i) (subst InTime (seat-at (b .seats) i h) (in-time (suc i)))
 
   zero-in-time : ZeroChangesNothing b → (n : ℕ) → InTime (seatOf (b .seats) n)
   zero-in-time unchanged n =
