@@ -12,15 +12,16 @@ use Rattle.packet.specs.Refusals.{accepted}
 use Rattle.record.specs.Record.{noSuchSeat, seatOf}
 use Rattle.seats.specs.Ticking.{longestTick, tooLong, noSeats, tickSets}
 use Rattle.bench.specs.Step.{tick, ticked, step, after}
-use Rattle.record.specs.declared.seat.Seat.{Seat}
 use Rattle.record.specs.declared.whole.Bench.{Bench}
 use Rattle.demands.specs.Kept.{Kept}
 
 -- What is told of one seat, by the first tick (₁), by the second (₂) and by the merged one; and whether it is open afterwards.
 pub record ToldAlike (closed₁ closed₂ closed due₁ due₂ due isOpen : Bool) : Type 0 where
+  -- "The closed seats are the same taken together, and so are the due seats among those still open."
   pub together : closed₁ || closed₂ ≡ closed
   pub among-open : isOpen ≡ true → due₁ || due₂ ≡ due
-  -- the one difference: due in one of the two and not in the merged one, exactly if due in the first and closed in the second
+  -- The one difference: due in one of the two and not in the merged one, exactly if due in the first and closed in the second;
+  -- and none is due in the merged one alone.
   pub one-difference : (due₁ || due₂) && not due ≡ due₁ && closed₂
   pub none-alone : due && not (due₁ || due₂) ≡ false
 
@@ -28,7 +29,7 @@ pub record ToldAlike (closed₁ closed₂ closed due₁ due₂ due isOpen : Bool
 unfoldable pub isIn : (set : List Bool) (n : ℕ) → Bool
 isIn set n = not (noSuchSeat n) && getD set (n - 1) false
 
--- A tick of x and then one of y, and the merged one: the same bench in every field, and the same told of each seat, but for the one difference.
+-- A tick of x and then one of y, and the merged one: the same bench in every field, and of each seat the same told, but for that.
 pub record TwoTicks (b : Bench) (x y : ℕ) : Type 0 where
   pub bench : after b (tick x ∷ tick y ∷ []) ≡ after b (tick (x + y) ∷ [])
   pub seats : (n : ℕ) →
@@ -45,16 +46,15 @@ time (ms ∷ more) = ms + time more
 abbrev pub ZeroChangesNothing : Bench → Type 0
 ZeroChangesNothing b = step b (tick 0) ≡ record { answer = accepted (ticked (noSeats .closed) (noSeats .due)); bench = b }
 
-abbrev pub InTime : Seat → Type 0
-InTime s = s .opened ≡ true → (1 ≤ s .left) × (s .phase < s .period)
-
 pub record TicksAddUp : Type 0 where
   -- Of any bench, whatever it holds: what a tick of at most 1000 ms answers, and that two of them may be merged.
   pub told : (b : Bench) (ms : ℕ) → ms ≤ longestTick → step b (tick ms) .answer ≡ accepted (ticked (tickSets b ms .closed) (tickSets b ms .due))
   pub two-ticks : (b : Bench) (x y : ℕ) → x + y ≤ longestTick → TwoTicks b x y
-  -- The same time in any ticks, some of them and none refused, leaves the same bench: so they may be merged at will.
+  -- Runs of ticks that take the same time, each of some ticks and none above 1000 ms, leave the same bench: so merge them at will.
   pub same-time : (b : Bench) (x y : ℕ) (xs ys : List ℕ) → howMany tooLong (x ∷ xs) ≡ 0 → howMany tooLong (y ∷ ys) ≡ 0
       → time (x ∷ xs) ≡ time (y ∷ ys) → after b (map tick (x ∷ xs)) ≡ after b (map tick (y ∷ ys))
-  -- Of every bench that calls lead to (Kept); and of any bench of eight seats exactly if each that is open is in time.
+  -- Of every bench that calls lead to (Kept); of any with eight seats exactly if each open one has time left and its phase below
+  -- its period:
   pub zero : (b : Bench) → Kept b → ZeroChangesNothing b
-  pub zero-exactly : (b : Bench) → length (b .seats) ≡ 8 → ZeroChangesNothing b ↔ ((n : ℕ) → InTime (seatOf (b .seats) n))
+  pub zero-exactly : (b : Bench) → length (b .seats) ≡ 8
+      → ZeroChangesNothing b ↔ ((n : ℕ) → let s = seatOf (b .seats) n in s .opened ≡ true → (1 ≤ s .left) × (s .phase < s .period))

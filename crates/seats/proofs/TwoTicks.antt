@@ -1,4 +1,4 @@
--- One seat in two ticks, of a and then of b ms, and in the one tick of a + b: of any seat, whatever it holds. At the end a tick of 0.
+-- One seat in two ticks, of a ms and then of b, and in the merged one, of a + b: of any seat, whatever it holds. At the end a tick of 0.
 use Prim.Native.Nat.{ℕ, _+_, _-_, _%_, _≤_, _<_}
 use mathlib.Core.Path.{_≡_, refl, sym, ap, ap₂, _∙_}
 use mathlib.Core.Bool.{Bool, true, false, cond, not, _&&_, _||_, false≢true}
@@ -14,11 +14,11 @@ use Rattle.record.specs.declared.seat.Seat.{Seat}
 
 -- ---- what a seat counts
 
--- "A tick takes its ms from that": the second tick tests what the one tick tests
+-- "A tick takes its ms from that": the second tick tests what the merged one tests
 pub left-adds : (a b : ℕ) (s : Seat) → nothingLeft b (aged a s) ≡ nothingLeft (a + b) s
 left-adds a b s = by-tests (nothingLeft b (aged a s)) (nothingLeft (a + b) s) refl refl
   where
-    by-tests : (second one : Bool) → nothingLeft b (aged a s) ≡ second → nothingLeft (a + b) s ≡ one → second ≡ one
+    by-tests : (second merged : Bool) → nothingLeft b (aged a s) ≡ second → nothingLeft (a + b) s ≡ merged → second ≡ merged
     by-tests true true e f = refl
     by-tests true false e f = absurd (omega (arith, leb-true, leb-false))
     by-tests false true e f = absurd (omega (arith, leb-true, leb-false))
@@ -89,7 +89,7 @@ ticks-add a b s = by-tests (s .opened) (nothingLeft a s) refl refl
 
 -- ---- what is told of it
 
--- The four fates of a seat: is it closed by the first tick (₁), by the second (₂), by the one; is it due in each; is it open at the end.
+-- The four fates of a seat: is it closed by the first tick (₁), by the second (₂), by the merged one; is it due in each; is it open afterwards.
 pub data Fate : (c₁ c₂ c d₁ d₂ d up : Bool) → Type 0 where
   closed-before : Fate false false false false false false false
   closed-first : Fate true false true false false false false
@@ -138,13 +138,16 @@ none-alone (open-still {d₁} {d₂}) = and-not (d₁ || d₂)
 
 -- ---- a tick of 0
 
+abbrev pub InTime : Seat → Type 0
+InTime s = s .opened ≡ true → (1 ≤ s .left) × (s .phase < s .period)
+
 pub record Unmoved (s : Seat) : Type 0 where
   pub not-silent : fallsSilent 0 s ≡ false
   pub not-due : isDue 0 s ≡ false
   pub same : tickedSeat 0 s ≡ s
 
 -- a tick of 0 leaves a seat alone if, where it is open, it has time left and a phase below its period,
-pub in-time-unmoved : (s : Seat) → (s .opened ≡ true → (1 ≤ s .left) × (s .phase < s .period)) → Unmoved s
+pub in-time-unmoved : (s : Seat) → InTime s → Unmoved s
 unfolding fallsSilent isDue tickedSeat
 in-time-unmoved s in-time = by-test (s .opened) refl
   where
@@ -162,7 +165,7 @@ in-time-unmoved s in-time = by-test (s .opened) refl
         }
 
 -- and only then
-pub unmoved-in-time : (s : Seat) → fallsSilent 0 s ≡ false → isDue 0 s ≡ false → s .opened ≡ true → (1 ≤ s .left) × (s .phase < s .period)
+pub unmoved-in-time : (s : Seat) → fallsSilent 0 s ≡ false → isDue 0 s ≡ false → InTime s
 unfolding fallsSilent isDue
 unmoved-in-time s silent due o =
     let some : 0 < s .left = leb-false _ _ (simp o at silent) in

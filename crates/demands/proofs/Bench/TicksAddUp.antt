@@ -19,13 +19,13 @@ use Rattle.record.specs.Record.{noSuchSeat, closedSeat, seatOf, withSeats}
 use Rattle.record.proofs.Seats.{seat-at, seat-changed}
 use Rattle.seats.specs.Ticking.{longestTick, tooLong, fallsSilent, isDue, tickedSeat, tickRefusals, tickSaid, noSeats, tickSets, tickedBench}
 use Rattle.seats.proofs.TickingLaws.{tick-tells}
-use Rattle.seats.proofs.TwoTicks.{ticks-add, Fate, fate, closed-together, due-among-open, one-difference, none-alone, Unmoved, in-time-unmoved, unmoved-in-time}
+use Rattle.seats.proofs.TwoTicks.{ticks-add, Fate, fate, closed-together, due-among-open, one-difference, none-alone, InTime, Unmoved, in-time-unmoved, unmoved-in-time}
 use Rattle.bench.specs.Step.{tick, ticked, Outcome, step, after}
 use Rattle.record.specs.declared.seat.Seat.{Seat}
 use Rattle.record.specs.declared.whole.Bench.{Bench}
 use Rattle.seats.specs.declared.ticking.SeatSets.{SeatSets}
 use Rattle.demands.specs.Kept.{Kept}
-use Rattle.demands.specs.TicksAddUp.{ToldAlike, isIn, TwoTicks, time, ZeroChangesNothing, InTime, TicksAddUp}
+use Rattle.demands.specs.TicksAddUp.{ToldAlike, isIn, TwoTicks, time, ZeroChangesNothing, TicksAddUp}
 
 -- ---- one tick
 
