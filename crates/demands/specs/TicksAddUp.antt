@@ -30,7 +30,7 @@ unfoldable pub isIn : (set : List Bool) (n : ℕ) → Bool
 isIn set n = not (noSuchSeat n) && getD set (n - 1) false
 
 -- A tick of x and then one of y, and the merged one: the same bench in every field, and of each seat the same told, but for that.
-pub record TwoTicks (b : Bench) (x y : ℕ) : Type 0 where
+pub record MayMerge (b : Bench) (x y : ℕ) : Type 0 where
   pub bench : after b (tick x ∷ tick y ∷ []) ≡ after b (tick (x + y) ∷ [])
   pub seats : (n : ℕ) →
       let first = tickSets b x in
@@ -49,7 +49,7 @@ ZeroChangesNothing b = step b (tick 0) ≡ record { answer = accepted (ticked (n
 pub record TicksAddUp : Type 0 where
   -- Of any bench, whatever it holds: what a tick of at most 1000 ms answers, and that two of them may be merged.
   pub told : (b : Bench) (ms : ℕ) → ms ≤ longestTick → step b (tick ms) .answer ≡ accepted (ticked (tickSets b ms .closed) (tickSets b ms .due))
-  pub two-ticks : (b : Bench) (x y : ℕ) → x + y ≤ longestTick → TwoTicks b x y
+  pub two-ticks : (b : Bench) (x y : ℕ) → x + y ≤ longestTick → MayMerge b x y
   -- Runs of ticks that take the same time, each of some ticks and none above 1000 ms, leave the same bench: so merge them at will.
   pub same-time : (b : Bench) (x y : ℕ) (xs ys : List ℕ) → howMany tooLong (x ∷ xs) ≡ 0 → howMany tooLong (y ∷ ys) ≡ 0
       → time (x ∷ xs) ≡ time (y ∷ ys) → after b (map tick (x ∷ xs)) ≡ after b (map tick (y ∷ ys))

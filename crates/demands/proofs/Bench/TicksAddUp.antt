@@ -25,7 +25,7 @@ use Rattle.record.specs.declared.seat.Seat.{Seat}
 use Rattle.record.specs.declared.whole.Bench.{Bench}
 use Rattle.seats.specs.declared.ticking.SeatSets.{SeatSets}
 use Rattle.demands.specs.Kept.{Kept}
-use Rattle.demands.specs.TicksAddUp.{ToldAlike, isIn, TwoTicks, time, ZeroChangesNothing, TicksAddUp}
+use Rattle.demands.specs.TicksAddUp.{ToldAlike, isIn, MayMerge, time, ZeroChangesNothing, TicksAddUp}
 
 -- ---- one tick
 
@@ -77,7 +77,7 @@ bench-adds b x y = ap (withSeats b) (seats-add x y (b .seats))
 alike : {c₁ c₂ c d₁ d₂ d up : Bool} → Fate c₁ c₂ c d₁ d₂ d up → ToldAlike c₁ c₂ c d₁ d₂ d up
 alike f = record { together = closed-together f; among-open = due-among-open f; one-difference = one-difference f; none-alone = none-alone f }
 
-two-ticks : (b : Bench) (x y : ℕ) → x + y ≤ longestTick → TwoTicks b x y
+two-ticks : (b : Bench) (x y : ℕ) → x + y ≤ longestTick → MayMerge b x y
 unfolding after
 two-ticks b x y short =
     let first : x ≤ longestTick = omega arith in
