@@ -10,13 +10,13 @@ use Rattle.bench.specs.Step.{Call, opening, tick, ticked, after}
 use Rattle.seats.specs.declared.opening.CallType.the-variants.{TxRx}
 use Rattle.demands.specs.LessonsSeen.{lab, answer}
 
--- a seat with a report every 200 ms
-abbrev pub enters : (n multiplier : ℕ) → Call
-enters n multiplier = opening n (record { call = TxRx; period = 200; multiplier = multiplier; ssrc = 7; sequence = 1 })
+-- a seat that is due every 200 ms
+abbrev pub opens : (n multiplier : ℕ) → Call
+opens n multiplier = opening n (record { call = TxRx; period = 200; multiplier = multiplier; ssrc = 7; sequence = 1 })
 
 -- seat 1 is closed by 400 ms of silence, seat 2 by 2000
 abbrev pub run : List Call
-run = enters 1 2 ∷ enters 2 10 ∷ []
+run = opens 1 2 ∷ opens 2 10 ∷ []
 
 abbrev pub setOf : List ℕ → List Bool
 setOf ns = map (among ns) seatNumbers

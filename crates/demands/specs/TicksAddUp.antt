@@ -29,7 +29,7 @@ pub record ToldAlike (closed₁ closed₂ closed due₁ due₂ due isOpen : Bool
 unfoldable pub isIn : (set : List Bool) (n : ℕ) → Bool
 isIn set n = not (noSuchSeat n) && getD set (n - 1) false
 
--- A tick of x and then one of y, and the merged one: the same bench in every field, and of each seat the same told, but for that.
+-- A tick of x and then one of y, and the merged one: the same bench in every field, and the same told but for the one difference.
 pub record MayMerge (b : Bench) (x y : ℕ) : Type 0 where
   pub bench : after b (tick x ∷ tick y ∷ []) ≡ after b (tick (x + y) ∷ [])
   pub seats : (n : ℕ) →
@@ -50,11 +50,11 @@ pub record TicksAddUp : Type 0 where
   -- Of any bench, whatever it holds: what a tick of at most 1000 ms answers, and that two of them may be merged.
   pub told : (b : Bench) (ms : ℕ) → ms ≤ longestTick → step b (tick ms) .answer ≡ accepted (ticked (tickSets b ms .closed) (tickSets b ms .due))
   pub two-ticks : (b : Bench) (x y : ℕ) → x + y ≤ longestTick → MayMerge b x y
-  -- Runs of ticks that take the same time, each of some ticks and none above 1000 ms, leave the same bench: so merge them at will.
+  -- Runs of ticks that take the same time, each of some ticks and none above 1000 ms, leave the same bench: merge at will.
   pub same-time : (b : Bench) (x y : ℕ) (xs ys : List ℕ) → howMany tooLong (x ∷ xs) ≡ 0 → howMany tooLong (y ∷ ys) ≡ 0
       → time (x ∷ xs) ≡ time (y ∷ ys) → after b (map tick (x ∷ xs)) ≡ after b (map tick (y ∷ ys))
-  -- Of every bench that calls lead to (Kept); of any with eight seats exactly if each open one has time left and its phase below
-  -- its period:
+  -- Of every bench that calls lead to (Kept). Of any other, with eight seats, exactly if each open seat has time left and a phase
+  -- below its period.
   pub zero : (b : Bench) → Kept b → ZeroChangesNothing b
   pub zero-exactly : (b : Bench) → length (b .seats) ≡ 8
       → ZeroChangesNothing b ↔ ((n : ℕ) → let s = seatOf (b .seats) n in s .opened ≡ true → (1 ≤ s .left) × (s .phase < s .period))
