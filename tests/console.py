@@ -27,6 +27,7 @@ USAGE = {
     "write": "write tx SEQ TS SSRC PTT ID PM PTTS CLD MSS AUDIO ROOM"
     " or write rx SEQ TS SSRC PTT SQU ID PM PTTS SCT SQI MSS AUDIO ROOM",
     "quality": "quality LEVEL",
+    "air": "air",
     "help": "help",
 }
 UNKNOWN = "a call; help prints them"
@@ -122,6 +123,7 @@ ARGUMENTS = {
     "write tx": (one_of("tx"), half, whole, whole, byte, byte, bit, bit, absent_or(byte), absent_or(bit), data, room),
     "write rx": (one_of("rx"), half, whole, whole, byte, bit, byte, bit, bit, bit, absent_or(sqi), absent_or(bit), data, room),
     "quality": (level,),
+    "air": (),
     "help": (),
 }
 
@@ -241,6 +243,9 @@ class Console:
 
     def quality(self, level):
         return f"ok quality={model.quality(level)}"
+
+    def air(self):
+        return f"ok on={shown_seats(self.bench.air.on)} ptt={self.bench.air.ptt}"
 
 
 def answers(lines):

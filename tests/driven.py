@@ -39,8 +39,10 @@ def long_session():
     s.packet(1, ptt=NORMAL)
     s.packet(6, ptt=NORMAL)
     s.all_told("1267", ptt=NORMAL, id=2)
+    s.air("2", NORMAL)
     s.packet(2)
     s.told(2, ptt=NORMAL, id=1)
+    s.air("1", NORMAL)
     return "".join(line + "\n" for line in s.lines).encode()
 
 
@@ -68,6 +70,7 @@ def edges():
     yield "every byte inside a word", b"".join(b"close 9" + bytes([b]) + b"9\n" for b in range(256))
     yield "a long session", long_session()
     yield "words at length", at_length()
+    yield "air behind each line", b"".join(line + b"\nair\n" for line in random_session(5_000, 3).splitlines())
     yield "every level of 16 bits", b"".join(b"quality %d\n" % level for level in range(-32768, 32768))
 
 
@@ -155,6 +158,9 @@ class Random:
     def quality(self):
         return f"quality {self.level()}"
 
+    def air(self):
+        return "air"
+
     def transmitter(self):
         return f"transmitter {pick(self.r, 'healthy', 'healthy', 'unhealthy')}"
 
@@ -177,7 +183,7 @@ class Random:
 
     # how often each comes
     KINDS = {"packet": 30, "report": 20, "tick": 10, "open": 20, "close": 1, "received": 4, "transmitter": 3, "side": 3,
-             "read": 4, "write": 4, "quality": 2, "setup": 0.2, "junk": 2}
+             "read": 4, "write": 4, "quality": 2, "air": 8, "setup": 0.2, "junk": 2}
 
     def line(self):
         kind = self.r.choices(list(self.KINDS), list(self.KINDS.values()))[0]

@@ -1,4 +1,5 @@
-"""Document 01's bench, levels as in 02's third request: its calls, who is on the air, reports. Part of the model, see model.py."""
+"""Document 01's bench, levels as in 02's third request, the air kept as in its fifth: its calls, who is on the air, reports.
+Part of the model, see model.py."""
 
 from dataclasses import dataclass
 
@@ -61,6 +62,13 @@ class TickAnswer:
     due: tuple
 
 
+@dataclass(frozen=True)
+class Air:
+    # 02: "Keep the on-air seats and the top type in the bench record"
+    on: tuple = ()
+    ptt: int = OFF
+
+
 def keyed(field):
     # "PTT on and PM 0"
     return field.ptt != OFF and field.pm == 0
@@ -85,6 +93,7 @@ class Bench:
         self.signals = 0
         self.level = 0
         self.keyings = 0  # how many keyings have begun; Python's numbers don't run out
+        self.air = Air()  # as `keep_air` left it
 
     # -- seats
 
@@ -116,6 +125,7 @@ class Bench:
             return refused
         # "Opening and each accepted packet set a seat's time left to period times multiplier ms."
         self.seats[n] = Seat(n, call, period, multiplier, ssrc, sequence, left=period * multiplier)
+        self.keep_air()
         return self.seats[n].own_id
 
     def close(self, n):
@@ -125,6 +135,7 @@ class Bench:
             return refused
         # "It can be opened again at once."
         self.seats[n] = None
+        self.keep_air()
         return None
 
     # -- packets
@@ -173,9 +184,10 @@ class Bench:
         seat.heard, seat.ssrc, seat.sequence, seat.last = True, message.ssrc, message.sequence, new
         # "Opening and each accepted packet set a seat's time left to period times multiplier ms."
         seat.left = seat.period * seat.multiplier
+        self.keep_air()
 
         # "An accepted audio packet's payload is sent, to the side in use, exactly if its seat is on the air after it."
-        audio = message.audio if n in self.on_the_air() else b""
+        audio = message.audio if n in self.air.on else b""
         return PacketAnswer(missing, reply, self.side_in_use, audio)
 
     def keying_forbidden(self, seat, field):
@@ -211,6 +223,7 @@ class Bench:
             if seat.since_due >= seat.period:
                 seat.since_due %= seat.period
                 due.append(n)
+        self.keep_air()
         return TickAnswer(tuple(closed), tuple(due))
 
     # -- radio events
@@ -219,15 +232,18 @@ class Bench:
         # "signals received (0 to 255) with a level"; 02: "The level becomes tenths in a 16-bit signed number";
         # "the other events are never refused"
         self.signals, self.level = count, level
+        self.keep_air()
 
     def transmitter(self, healthy):
         self.healthy = healthy
+        self.keep_air()
 
     def side(self, side):
         # "Side event 23": "side event on a single radio"
         if not self.setup.pair:
             return Refused(23)
         self.side_in_use = side
+        self.keep_air()
         return None
 
     # -- who is on the air
@@ -259,6 +275,13 @@ class Bench:
             air += [seat.number for seat in self.taking_part() if seat.last.ptt == COUPLING]
         return sorted(air)
 
+    def worked_out_air(self):
+        return Air(tuple(self.on_the_air()), self.top_type())
+
+    def keep_air(self):
+        # 02: ".. right after every call": each accepted one but a report ends with this, a refused one leaves what is kept
+        self.air = self.worked_out_air()
+
     # -- reports
 
     def report(self, n, timestamp, audio, room):
@@ -283,10 +306,12 @@ class Bench:
         return packet
 
     def told(self, seat):
-        # "Report to a seat."
-        air, top = self.on_the_air(), self.on_the_air_at_the_top()
+        # "Report to a seat."; 02: "and let reports read them"
+        air = self.air.on
         # "PTT type: the top type, or off."
-        ptt = self.top_type()
+        ptt = self.air.ptt
+        # those "on the air at the top rank": the others are keyed Coupling and were added
+        top = [n for n in air if self.seats[n].last.ptt == ptt]
         # "ptt-id: 0 if off; the seat's own if it is on the air at the top rank; else the smallest on the air
         #  at the top rank."
         if ptt == OFF:

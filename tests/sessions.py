@@ -16,6 +16,7 @@ import usage
 import written
 from sessions_air import air, time
 from sessions_ddc import ddc_items
+from sessions_kept import kept_air
 from sessions_levels import levels
 from sessions_lines import lines
 from sessions_packets import packets
@@ -54,7 +55,7 @@ def main():
     folder = pathlib.Path(given[0]) if given else CRATE
     folder.mkdir(parents=True, exist_ok=True)
     s = Sessions()
-    for part in (printed_examples, traps, refusals, time, air, packets, ddc_items, levels, merged_ticks, lines):
+    for part in (printed_examples, traps, refusals, time, air, packets, ddc_items, levels, merged_ticks, kept_air, lines):
         part(s)
     s.save(folder)
     print(f"{s.sessions} sessions, {len(s.lines)} lines, {len(s.answers)} answers; written to {folder}")

@@ -2,7 +2,9 @@
 """Runs long random sessions of well-formed calls on the console and checks what needs no second implementation:
 no `error:` line; the same session twice gives the same answers; a refused call changes nothing (the session without
 its refused calls answers the same); a type 4 item is stepped over (the session without them answers the same); a report
-tells a quality exactly while a signal is received, and the one that `quality` answers for its level; ticks add up (the
+tells a quality exactly while a signal is received, and the one that `quality` answers for its level; the air is kept (with
+`air` behind each line every other answer is the same, a refused call and a report leave what it answers, a report tells its
+top type and one of its seats, audio is sent from its seats alone, and nobody closed is one of them); ticks add up (the
 session with two ticks for each answers the same, but for a seat due in the first and closed in the second); and demand 3
 (the session without its lesson calls answers live seats the same, but for what the demand allows).
 
@@ -23,8 +25,10 @@ from handmade import built, some_ddc, words_of
 ROOT = pathlib.Path(__file__).resolve().parent.parent
 LESSONS = "78"
 MODES = list(itertools.product(("single", "pair"), ("lockout", "summation"), ("interruption", "summation")))
+# how often each call comes
+KINDS = {"packet": 40, "report": 26, "tick": 5, "open": 6, "close": 1, "received": 4, "transmitter": 2, "side": 2, "quality": 1, "air": 4}
 NAMES_A_SEAT = ("open", "close", "packet", "report")
-TEST = 5
+TEST, AUDIO = 5, 8
 
 
 def answers(lines):
@@ -57,7 +61,7 @@ def session(count, seed):
     without = {}
     while len(lines) < count:
         seat = r.choice([1, 2, 3, 4, 5, 6, 7, 8, 7, 8] * 3 + [0, 9])
-        kind = r.choices(["packet", "report", "tick", "open", "close", "received", "transmitter", "side", "quality"], [40, 26, 5, 6, 1, 4, 2, 2, 1])[0]
+        kind = r.choices(list(KINDS), list(KINDS.values()))[0]
         if kind == "packet":
             sequence[seat] = (sequence[seat] + r.choice([1] * 16 + [2, 9, 0, 32767])) % 65536
             data, plain = a_packet(r, seat, sequence[seat])
@@ -70,6 +74,8 @@ def session(count, seed):
         elif kind == "open":
             call = r.choice(["txrx"] * 5 + ["idle", "rxonly", "coupling"])
             lines.append(f"open {seat} {call} {r.choice([200, 1000, 1000, 1000, 1000, 19])} {r.choice([2, 50, 50, 50, 50, 50, 51])} {r.randrange(2**32)} {r.randrange(65536)}")
+        elif kind == "air":
+            lines.append("air")
         else:
             level = r.choice([-32768, 32767] + 14 * [r.randrange(-1200, -500)])
             words = {"close": seat, "tick": r.choice([0, 1, 10, 20, 20, 100, 1000, 1001]),
@@ -100,6 +106,12 @@ def live_seats(ticked):
     return [seats - set(LESSONS) for seats in seat_sets(ticked)]
 
 
+def seats_and_type(shown):
+    """Who is on the air, and the top type: `ok on=SEATS ptt=N`."""
+    on, ptt = [part.partition("=")[2] for part in shown.split()[1:]]
+    return set(on) - {"-"}, int(ptt)
+
+
 def ptt_type(packet):
     """Of an accepted packet, behind its CSRC words."""
     data = bytes.fromhex(packet)
@@ -120,6 +132,10 @@ def allowed(line, mixed, alone):
     if kind == "report":
         told = int(alone.split()[2][32:34], 16) >> 5
         return told in (0, TEST) and blotted(mixed.split()[2]) == blotted(alone.split()[2])
+    if kind == "air":
+        # a lesson keying is Test: it is on the air where no live keying is above Test, and puts no live seat there
+        (on_mixed, top_mixed), (on_alone, top_alone) = map(seats_and_type, (mixed, alone))
+        return top_alone in (0, TEST) and top_mixed == TEST and on_mixed - set(LESSONS) <= on_alone
     return False
 
 
@@ -151,6 +167,44 @@ def hold_qualities(lines, first):
         if asked[level] != f"ok quality={quality}":
             fail(f"another quality than `quality {level}` answers", lines, i)
     return len(told)
+
+
+def fits_air(line, answer, on, ptt):
+    """Whether an accepted call fits the air that `air` answers behind it: a report tells its type, one of its seats, and PTTS where
+    there are several; a packet's audio is sent if its seat is one of them; no seat just opened or closed is, and nobody in a fault."""
+    kind, *words = line.split()
+    if kind in ("open", "close"):
+        return words[0] not in on
+    if kind == "tick":
+        return not seat_sets(answer)[0] & on
+    if kind == "transmitter":
+        return words[0] == "healthy" or not on
+    if kind == "report":
+        field = int(answer.split()[2][32:36], 16)
+        told, ptt_id, ptts = field >> 13, field >> 6 & 63, field >> 4 & 1
+        if not on:
+            return ptt == told == ptt_id == ptts == 0
+        return told == ptt and str(ptt_id) in on and (ptts == 1 or len(on) == 1)
+    if kind == "packet" and bytes.fromhex(words[1])[1] == AUDIO:
+        return answer.endswith(" audio=-") == (words[0] not in on)
+    return True
+
+
+def hold_air(lines, first):
+    """02, request 5. Answers behind how many calls the air was another than before."""
+    given = answers([part for line in lines for part in (line, "air")])
+    before, changes = "ok on=- ptt=0", 0
+    for i, (answer, shown) in enumerate(zip(given[::2], given[1::2], strict=True)):
+        if answer != first[i]:
+            fail("`air`, asked before it, changed the answer", lines, i)
+        accepted = answer.startswith("ok")
+        if shown != before and (not accepted or lines[i].startswith("report ")):
+            fail(f"a refused call or a report changed what `air` answers, {before} to {shown}", lines, i)
+        if accepted and not fits_air(lines[i], answer, *seats_and_type(shown)):
+            fail(f"`air` behind it answers what doesn't fit it, {shown},", lines, i)
+        changes += shown != before
+        before = shown
+    return changes
 
 
 def in_two(r, line):
@@ -203,6 +257,7 @@ def soak(count, seed):
         if answer != first[i]:
             fail("a type 4 item in it or before it changed the answer", lines, i)
     told = hold_qualities(lines, first)
+    changes = hold_air(lines, first)
     ticks, merged = hold_ticks(lines, first, seed)
     live = [i for i, line in enumerate(lines) if not names_a_lesson(line)]
     alone = answers([lines[i] for i in live])
@@ -211,7 +266,7 @@ def soak(count, seed):
             fail("a lesson call before it changed what a live seat is told", lines, i)
     differing = sum(first[i] != answer for i, answer in zip(live, alone))
     refused = len(first) - len(kept)
-    print(f"seed {seed}: {len(lines)} calls, {refused} refused; {len(without)} type 4 items left out; {told} reports with a quality; "
+    print(f"seed {seed}: {len(lines)} calls, {refused} refused; {len(without)} type 4 items left out; {told} reports with a quality; {changes} calls changed the air; "
           f"{ticks} ticks made two, {merged} with a seat due in the first and closed in the second; "
           f"{len(lines) - len(live)} lesson calls left out, {differing} live answers differed as demand 3 allows")
 

@@ -19,8 +19,8 @@ def sound(seat, length):
 
 
 def shows(answer, expected):
-    """A part of the answer; of refusals, ticks, openings and qualities its first words, whole."""
-    if expected.startswith(("refused", "ok closed", "ok id", "ok quality")):
+    """A part of the answer; of refusals, ticks, openings, qualities and the air its first words, whole."""
+    if expected.startswith(("refused", "ok closed", "ok id", "ok quality", "ok on")):
         return (answer + " ").startswith(expected + " ")
     return expected in answer
 
@@ -46,6 +46,9 @@ class Sessions:
         """expected: what the line is there to show, written by hand."""
         answer = self.console.answer(line)
         assert shows(answer, expected), (line, expected, answer)
+        # 02: the on-air seats and the top type are kept "right after every call"
+        bench = self.console.bench
+        assert bench.air == bench.worked_out_air(), (line, bench.air)
         self.lines.append(line)
         self.answers.append(answer)
         return answer
@@ -95,6 +98,10 @@ class Sessions:
     def all_told(self, seats, **expected):
         for digit in seats:
             self.told(int(digit), **expected)
+
+    def air(self, on, ptt):
+        """Asks who is on the air, the seats in digits or `-`, and with which top type."""
+        self.say("air", f"ok on={on} ptt={ptt}")
 
     def save(self, folder):
         """The last line has no end."""

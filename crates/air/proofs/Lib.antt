@@ -6,3 +6,4 @@ pub mod AirFound
 pub mod AirLaws
 pub mod OrderLaws
 pub mod Bounds
+pub mod Kept

@@ -5,7 +5,7 @@ use mathlib.Core.List.{List, [], _∷_, _++_, map}
 use lib.Dec.{ltb, leb, eqb}
 use Rattle.base.specs.Lists.{howMany}
 use Rattle.packet.specs.Packet.{off, normal, coupling, priority, emergency, test}
-use Rattle.record.specs.Record.{seatNumbers, seatOf}
+use Rattle.record.specs.Record.{seatNumbers, seatOf, withAir}
 use Rattle.record.specs.declared.setup.Setup.{Setup}
 use Rattle.record.specs.declared.seat.Field.{Field}
 use Rattle.record.specs.declared.seat.Seat.{Seat}
@@ -103,3 +103,7 @@ airOf setup seats ks =
 -- What is shown of the air of a bench.
 unfoldable pub benchAir : Bench → Air
 benchAir b = airOf (b .setup) (b .seats) (keyings b)
+
+-- 02, request 5: "Keep the on-air seats and the top type in the bench record, right after every call". The bench with its air made right.
+abbrev pub aired : Bench → Bench
+aired b = withAir b (benchAir b)

@@ -2,7 +2,7 @@
 ghost use mathlib.Core.Path.{_≡_};
 ghost use Prim.Native.Nat.{max};
 ghost use mathlib.Core.List.{map};
-ghost use Rattle.air.specs.Air.{rank, typeOf, keyed, benchAir};
+ghost use Rattle.air.specs.Air.{rank, typeOf, keyed, benchAir, aired};
 ghost use Rattle.air.specs.Marks.{standing, standingOf, rankOf, highest, seatsAt, firstAt, markAll, marksOf, leadersAt, addedAt, sendsFrom, pttsShown};
 use crate::marks::mark_if;
 use crate::marks::marked;
@@ -194,8 +194,18 @@ fn ptts_shown(seats: [Seat; 8], on: [bool; 8]) -> bool
     any_sends(seats, on)
 }
 
+// The bench with its air made right. Every accepted call but a report leaves its bench so; reports read it.
+pub fn aired(b: Bench) -> Bench
+    ensures { λ r. ⌜ r ≡ aired b ⌝ }
+{
+    let air = bench_air(b);
+    let mut next = b;
+    next.air = air;
+    next
+}
+
 // What is shown of the air of a bench.
-pub fn bench_air(b: Bench) -> Air
+fn bench_air(b: Bench) -> Air
     ensures { λ r. ⌜ r ≡ benchAir b ⌝ }
 {
     let seats = b.seats;

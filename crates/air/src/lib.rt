@@ -5,5 +5,5 @@ pub mod air;
 mod marks;
 pub mod order;
 
-pub use air::bench_air;
+pub use air::aired;
 pub use order::order_after;

@@ -5,6 +5,7 @@ use mathlib.Core.List.{List, [], _∷_}
 use lib.IntN.{ℤ}
 use Rattle.packet.specs.Refusals.{Answer, accepted, refused, mapped}
 use Rattle.record.specs.Record.{settled, withSignals, withHealth, withSide}
+use Rattle.air.specs.Air.{aired}
 use Rattle.seats.specs.Opening.{openSaid, openedBench, closeSaid, closedBench}
 use Rattle.seats.specs.Ticking.{tickSaid, tickSets, tickedBench}
 use Rattle.seats.specs.Radio.{sideSaid}
@@ -42,28 +43,42 @@ outcome answer tell before after = record { answer = mapped tell answer; bench =
 abbrev pub told : Answer Hearing → List ℕ → Hearing → Said
 told answer p h = heard (h .missing) (h .reply) (h .standby) (audioIn answer p)
 
-unfoldable pub step : Bench → Call → Outcome
-step b (opening n r) = outcome (openSaid b n r) own b (openedBench b n r)
-step b (closing n) = outcome (closeSaid b n) (λ u. done) b (closedBench b n)
-step b (packet n p) = outcome (packetSaid b n p) (told (packetSaid b n p) p) b (heardBench b n (messageIn p))
-step b (tick ms) = outcome (tickSaid ms) (λ u. ticked (tickSets b ms .closed) (tickSets b ms .due)) b (tickedBench b ms)
-step b (report n timestamp sound room) =
-    outcome (reportSaid b n timestamp sound room) (λ k. written (reportBytes b n timestamp sound)) b (reportedBench b n)
-step b (received signals level) = record { answer = accepted done; bench = withSignals b signals level }
-step b (transmitter healthy) = record { answer = accepted done; bench = withHealth b healthy }
-step b (side standby) = outcome (sideSaid b) (λ u. done) b (withSide b standby)
+abbrev pub Machine : Type 0
+Machine = Bench → Call → Outcome
+
+-- What each call does, where a report reads the bench as `shown` has it, and every other accepted call leaves it as `kept` has it.
+unfoldable pub does : (shown kept : Bench → Bench) → Machine
+does shown kept b (opening n r) = outcome (openSaid b n r) own b (kept (openedBench b n r))
+does shown kept b (closing n) = outcome (closeSaid b n) (λ u. done) b (kept (closedBench b n))
+does shown kept b (packet n p) = outcome (packetSaid b n p) (told (packetSaid b n p) p) b (kept (heardBench b n (messageIn p)))
+does shown kept b (tick ms) = outcome (tickSaid ms) (λ u. ticked (tickSets b ms .closed) (tickSets b ms .due)) b (kept (tickedBench b ms))
+does shown kept b (report n timestamp sound room) =
+    outcome (reportSaid (shown b) n timestamp sound room) (λ k. written (reportBytes (shown b) n timestamp sound)) b (reportedBench b n)
+does shown kept b (received signals level) = record { answer = accepted done; bench = kept (withSignals b signals level) }
+does shown kept b (transmitter healthy) = record { answer = accepted done; bench = kept (withHealth b healthy) }
+does shown kept b (side standby) = outcome (sideSaid b) (λ u. done) b (kept (withSide b standby))
+
+-- The meaning: a report works out afresh who is on the air, and nothing of it is kept. So document 01.
+abbrev pub step : Machine
+step = does aired (λ b. b)
+
+-- The code: every accepted call but a report leaves the air right in the record, and a report reads it there. 02, request 5: "Keep the
+-- on-air seats and the top type in the bench record, right after every call, and let reports read them."
+abbrev pub keeping : Machine
+keeping = does (λ b. b) aired
 
 -- The bench after a run of calls.
-unfoldable pub after : Bench → List Call → Bench
-after b [] = b
-after b (c ∷ cs) = after (step b c .bench) cs
+unfoldable pub after : Machine → Bench → List Call → Bench
+after machine b [] = b
+after machine b (c ∷ cs) = after machine (machine b c .bench) cs
 
 -- The accepted calls of a run.
 abbrev pub wasAccepted : {A : Type 0} → Answer A → Bool
 wasAccepted (accepted a) = true
 wasAccepted (refused n c) = false
 
-unfoldable pub acceptedCalls : Bench → List Call → List Call
-acceptedCalls b [] = []
-acceptedCalls b (c ∷ cs) =
-    cond (wasAccepted (step b c .answer)) (c ∷ acceptedCalls (step b c .bench) cs) (acceptedCalls (step b c .bench) cs)
+unfoldable pub acceptedCalls : Machine → Bench → List Call → List Call
+acceptedCalls machine b [] = []
+acceptedCalls machine b (c ∷ cs) =
+    let rest = acceptedCalls machine (machine b c .bench) cs in
+    cond (wasAccepted (machine b c .answer)) (c ∷ rest) rest

@@ -1,7 +1,7 @@
 // The bench of document 01: every call in one place, from the crates that make them. Seats and events: `seats`; a packet:
-// `hearing`; a report: `reporting`; who is on the air: `air`; the record: `record`.
-// specs/Step.antt has every call as one definition.
-pub use air::bench_air;
+// `hearing`; a report: `reporting`; who is on the air: `air`, kept in the record: `record`.
+// specs/Step.antt has every call as one definition; proofs/Keeping.antt, that keeping the air changes no answer.
+pub use air::aired;
 pub use hearing::Hearing;
 pub use hearing::PacketAnswer;
 pub use hearing::Packeted;

@@ -1,4 +1,5 @@
 // The answer to a call: the library is asked, and what it says is written as a line, with no line end.
+use crate::say::air_line;
 use crate::say::heard_line;
 use crate::say::ok;
 use crate::say::quality_line;
@@ -56,19 +57,22 @@ pub fn answer(b: Bench, call: Call, s: &[u8], bytes: &[u8], out: &mut [u8]) -> S
         | Call::WriteTx { .. }
         | Call::WriteRx { .. }
         | Call::Quality(_)
+        | Call::Air
         | Call::Help
-        | Call::Wrong => told(b, line(b.setup.ext, call, s, bytes, out)),
+        | Call::Wrong => told(b, line(b, call, s, bytes, out)),
     }
 }
 
 // The answer to a call that leaves the bench as it is; the calls of the bench are answered above.
-fn line(ext: u16, call: Call, s: &[u8], bytes: &[u8], out: &mut [u8]) -> usize {
+fn line(b: Bench, call: Call, s: &[u8], bytes: &[u8], out: &mut [u8]) -> usize {
+    let ext = b.setup.ext;
     match call {
         Call::ReadTx(count) => read_tx(ext, part(bytes, 0, count), out),
         Call::ReadRx(count) => read_rx(ext, part(bytes, 0, count), out),
         Call::WriteTx { message, lent } => write_tx(ext, message, lent, bytes, out),
         Call::WriteRx { message, lent } => write_rx(ext, message, lent, bytes, out),
         Call::Quality(level) => quality_line(out, quality(level)),
+        Call::Air => air_line(out, b.air),
         Call::Help => help(out),
         Call::Wrong => expected(out, s),
         Call::Nothing

@@ -5,6 +5,7 @@ use bench::Hearing;
 use bench::SeatSets;
 use grammar::ROOM;
 use packet::Refusal;
+use record::Air;
 use show::refusal_line;
 use text::put;
 use text::put_bit;
@@ -43,6 +44,14 @@ pub fn heard_line(out: &mut [u8], h: Hearing, audio: &[u8]) -> usize {
 pub fn quality_line(out: &mut [u8], quality: u8) -> usize {
     let at = put(out, 0, b"ok quality=");
     put_number(out, at, quality as u64)
+}
+
+pub fn air_line(out: &mut [u8], air: Air) -> usize {
+    let on = air.on;
+    let at = put(out, 0, b"ok on=");
+    let at = put_seats(out, at, on);
+    let at = put(out, at, b" ptt=");
+    put_number(out, at, air.ptt as u64)
 }
 
 // The packet lies at the front of the buffer.

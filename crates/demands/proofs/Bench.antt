@@ -1,9 +1,11 @@
--- What the bench keeps through every call, what one call does to one seat, and that ticks add up. In the order in which they build on each other.
+-- What the bench keeps through every call, its air among it, what one call does to one seat, and that ticks add up. In the order in which they build on each other.
 pub mod Runs
 pub mod SeatAfter
 pub mod Order
 pub mod KeptSeats
 pub mod Kept
 pub mod KeptLaws
+pub mod AirKept
+pub mod AnswersStay
 pub mod TicksAddUp
 pub mod OneDifference

@@ -13,7 +13,7 @@ use Rattle.packet.specs.Packet.{pttType, pttId, ptts, test}
 use Rattle.packet.specs.Refusals.{Answer, accepted, mapped}
 use Rattle.record.specs.Record.{seatNumbers, seatOf, lesson, freshBench}
 use Rattle.air.specs.Air.{rank, takesPart}
-use Rattle.bench.specs.Step.{Call, opening, closing, packet, tick, report, received, transmitter, side, Said, done, own, heard, ticked, written, Outcome, step, after}
+use Rattle.bench.specs.Step.{Call, opening, closing, packet, tick, report, received, transmitter, side, Said, done, own, heard, ticked, written, Outcome, Machine, keeping, after}
 use Rattle.record.specs.declared.setup.Setup.{Setup}
 use Rattle.record.specs.declared.whole.Bench.{Bench}
 
@@ -63,8 +63,8 @@ fixed setup while keysTest (written bytes) = written (cond while bytes (blotted 
 unfoldable pub compared : Setup → Call → Outcome → Answer Said
 compared setup c o = mapped (fixed setup (liveAboveTest (o .bench) seatNumbers) (eqb (pttOf (o .bench) (named c)) test)) (o .answer)
 
--- The benches x and y after two such runs of a machine (step, below), and any call then: so every call in them, for its forerunners are such runs.
-pub record Apart (machine : Bench → Call → Outcome) (setup : Setup) (x y : Bench) : Type 0 where
+-- The benches x and y after two such runs of a machine (keeping, below), and any call then: so every call in them, for its forerunners are such runs.
+pub record Apart (machine : Machine) (setup : Setup) (x y : Bench) : Type 0 where
   -- "While ..": in both or in neither
   pub together : liveAboveTest x seatNumbers ≡ liveAboveTest y seatNumbers
   pub same : (c : Call) → lesson setup (named c) ≡ false → compared setup c (machine x c) ≡ compared setup c (machine y c)
@@ -74,4 +74,4 @@ pub record Apart (machine : Bench → Call → Outcome) (setup : Setup) (x y : B
 
 abbrev pub LessonsApart : Type 0
 LessonsApart = (setup : Setup) (xs ys : List Call) → withoutLessons setup xs ≡ withoutLessons setup ys
-    → Apart step setup (after (freshBench setup) xs) (after (freshBench setup) ys)
+    → Apart keeping setup (after keeping (freshBench setup) xs) (after keeping (freshBench setup) ys)

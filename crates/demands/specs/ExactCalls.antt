@@ -11,7 +11,7 @@ use Rattle.seats.specs.Ticking.{tickRefusals}
 use Rattle.seats.specs.Radio.{sideRefusals}
 use Rattle.hearing.specs.Hearing.{packetRefusals}
 use Rattle.reporting.specs.Reporting.{reportRefusals, reportBuffer}
-use Rattle.bench.specs.Step.{Call, opening, closing, packet, tick, report, received, transmitter, side, step}
+use Rattle.bench.specs.Step.{Call, opening, closing, packet, tick, report, received, transmitter, side, keeping}
 use Rattle.record.specs.declared.whole.Bench.{Bench}
 use Rattle.demands.specs.Exact.{Exact}
 
@@ -28,8 +28,8 @@ refusalsOf b (transmitter healthy) = []
 refusalsOf b (side standby) = sideRefusals (b .setup)
 
 pub record CallsExact : Type 0 where
-  pub each-call : (b : Bench) (c : Call) → Exact (refusalsOf b c) (step b c .answer)
+  pub each-call : (b : Bench) (c : Call) → Exact (refusalsOf b c) (keeping b c .answer)
   -- "State and buffers stay the same."
-  pub refused-keeps : (b : Bench) (c : Call) (n cause : ℕ) → step b c .answer ≡ refused n cause → step b c .bench ≡ b
+  pub refused-keeps : (b : Bench) (c : Call) (n cause : ℕ) → keeping b c .answer ≡ refused n cause → keeping b c .bench ≡ b
   pub refused-writes-nothing : (b : Bench) (seat timestamp : ℕ) (sound buffer : List ℕ) (n cause : ℕ)
-      → step b (report seat timestamp sound (length buffer)) .answer ≡ refused n cause → reportBuffer b seat timestamp sound buffer ≡ buffer
+      → keeping b (report seat timestamp sound (length buffer)) .answer ≡ refused n cause → reportBuffer b seat timestamp sound buffer ≡ buffer

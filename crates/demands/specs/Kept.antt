@@ -11,7 +11,7 @@ use Rattle.base.specs.Lists.{howMany}
 use Rattle.packet.specs.Packet.{off, coupling, test}
 use Rattle.record.specs.Record.{seatNumbers, nothingHeard, closedSeat, freshBench, seatOf, lesson}
 use Rattle.seats.specs.Opening.{mayKey, isCoupling, shortest, longest, fewest, most, holdsCoupling, ownId}
-use Rattle.bench.specs.Step.{Call, opening, closing, packet, tick, report, received, transmitter, side, step, after}
+use Rattle.bench.specs.Step.{Call, opening, closing, packet, tick, report, received, transmitter, side, keeping, after}
 use Rattle.record.specs.declared.setup.Setup.{Setup}
 use Rattle.record.specs.declared.seat.Field.{Field}
 use Rattle.record.specs.declared.seat.Seat.{Seat}
@@ -91,5 +91,5 @@ AllInRange (c ∷ cs) = InRange c × AllInRange cs
 
 pub record KeptThroughout : Type 0 where
   pub at-the-start : (setup : Setup) → Kept (freshBench setup)
-  pub by-each-call : (b : Bench) (c : Call) → Kept b → InRange c → Kept (step b c .bench)
-  pub in-every-run : (setup : Setup) (cs : List Call) → AllInRange cs → Kept (after (freshBench setup) cs)
+  pub by-each-call : (b : Bench) (c : Call) → Kept b → InRange c → Kept (keeping b c .bench)
+  pub in-every-run : (setup : Setup) (cs : List Call) → AllInRange cs → Kept (after keeping (freshBench setup) cs)

@@ -12,7 +12,7 @@ use Rattle.packet.specs.declared.message.ClimaxItem.the-variants as climax
 use Rattle.packet.specs.declared.message.SideItem.the-variants as side
 use Rattle.packet.specs.declared.message.Tx.{Tx}
 use Rattle.record.specs.Record.{seatNumbers, freshBench}
-use Rattle.bench.specs.Step.{Call, opening, packet, report, Said, heard, written, step, after}
+use Rattle.bench.specs.Step.{Call, opening, packet, report, Said, heard, written, keeping, after}
 use Rattle.record.specs.declared.setup.Setup.{Setup}
 use Rattle.seats.specs.declared.opening.CallType.the-variants.{TxRx}
 use Rattle.demands.specs.Examples.{around}
@@ -69,7 +69,7 @@ abbrev pub lessonFirst : List Call
 lessonFirst = enters 1 ∷ enters 8 ∷ keys 8 test 1 ∷ keys 1 normal 1 ∷ []
 
 abbrev pub answer : List Call → Call → Answer Said
-answer run c = step (after (freshBench lab) run) c .answer
+answer run c = keeping (after keeping (freshBench lab) run) c .answer
 
 pub record LessonsSeen : Type 0 where
   -- the bits that may differ: 0 to 2, 4 to 9 and 11
@@ -84,6 +84,6 @@ pub record LessonsSeen : Type 0 where
   pub let-through : answer withoutLesson (keys 1 test 1) ≡ accepted (heard 0 true false voice)
   -- live seat 1 keys Normal: it is sent, the lesson seat that was on the air is no more, and 1 is told Normal, id 1
   pub wins : answer withLesson (keys 1 normal 1) ≡ accepted (heard 0 true false voice)
-  pub above : liveAboveTest (after (freshBench lab) lessonFirst) seatNumbers ≡ true
+  pub above : liveAboveTest (after keeping (freshBench lab) lessonFirst) seatNumbers ≡ true
   pub silenced : answer lessonFirst (keys 8 test 2) ≡ accepted (heard 0 false false [])
   pub is-told : answer lessonFirst (asked 1) ≡ accepted (written (around (0x20 ∷ 0x40 ∷ 0x00 ∷ 0x00 ∷ [])))

@@ -12,6 +12,8 @@ pub mod Tenths
 pub mod Steps
 pub mod SeatAfter
 pub mod Kept
+pub mod AirKept
+pub mod AnswersStay
 pub mod TicksAddUp
 pub mod Apart
 pub mod LessonsSeen

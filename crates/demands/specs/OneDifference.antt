@@ -6,7 +6,7 @@ use mathlib.Core.List.{List, [], _∷_, _++_, map}
 use Rattle.packet.specs.Refusals.{accepted}
 use Rattle.record.specs.Record.{seatNumbers, freshBench}
 use Rattle.air.specs.Air.{among}
-use Rattle.bench.specs.Step.{Call, opening, tick, ticked, after}
+use Rattle.bench.specs.Step.{Call, opening, tick, ticked, keeping, after}
 use Rattle.seats.specs.declared.opening.CallType.the-variants.{TxRx}
 use Rattle.demands.specs.LessonsSeen.{lab, answer}
 
@@ -27,4 +27,4 @@ pub record OneDifference : Type 0 where
   pub second : answer (run ++ tick 200 ∷ []) (tick 200) ≡ accepted (ticked (setOf (1 ∷ [])) (setOf (2 ∷ [])))
   -- one of 400: that seat 1 was due is not told; seat 2, due in both, is told due once
   pub merged : answer run (tick 400) ≡ accepted (ticked (setOf (1 ∷ [])) (setOf (2 ∷ [])))
-  pub same-bench : after (freshBench lab) (run ++ tick 200 ∷ tick 200 ∷ []) ≡ after (freshBench lab) (run ++ tick 400 ∷ [])
+  pub same-bench : after keeping (freshBench lab) (run ++ tick 200 ∷ tick 200 ∷ []) ≡ after keeping (freshBench lab) (run ++ tick 400 ∷ [])

@@ -12,6 +12,7 @@ use Rattle.packet.specs.declared.message.Message.{Message}
 use Rattle.packet.specs.declared.message.Tx.{Tx}
 use Rattle.packet.specs.declared.message.Rx.{Rx}
 use Rattle.record.specs.declared.whole.Bench.{Bench}
+use Rattle.air.specs.Air.{benchAir}
 use Rattle.reporting.specs.Reporting.{reportOf, reportSaid, reportBytes}
 use Rattle.demands.specs.Plain.{Plain}
 
@@ -38,10 +39,11 @@ WrittenAtFront =
     (ext : ℕ) (m : Message) (sound buffer : List ℕ) (n : ℕ) → write ext m sound (length buffer) ≡ accepted n
     → (writable m (length sound) ≡ true) × (take n (buffered ext m sound buffer) ≡ encode ext m sound)
 
--- and a report that was written tells what it was made of.
+-- and a report that was written tells what it was made of, where the air in the record is right (AirKept: after every run of calls). One
+-- made by hand may hold a PTT type or a ptt-id that a report has no bits for.
 abbrev pub ReportsReadBack : Type 0
 ReportsReadBack =
-    (b : Bench) (n timestamp : ℕ) (sound : List ℕ) (room long : ℕ) → Narrow (b .setup .ext) (fromRx (reportOf b n timestamp))
+    (b : Bench) → b .air ≡ benchAir b → (n timestamp : ℕ) (sound : List ℕ) (room long : ℕ) → Narrow (b .setup .ext) (fromRx (reportOf b n timestamp))
     → reportSaid b n timestamp sound room ≡ accepted long → readRx (b .setup .ext) (reportBytes b n timestamp sound) ≡ accepted (reportOf b n timestamp)
 
 -- 01: "Writers write only this", plain form.

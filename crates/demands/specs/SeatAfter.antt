@@ -11,7 +11,7 @@ use Rattle.record.specs.Record.{closedSeat, openedSeat, seatOf}
 use Rattle.seats.specs.Opening.{callCode}
 use Rattle.seats.specs.Ticking.{tickedSeat}
 use Rattle.hearing.specs.Hearing.{heardSeat, messageIn}
-use Rattle.bench.specs.Step.{Call, opening, closing, packet, tick, report, received, transmitter, side, step, after, acceptedCalls}
+use Rattle.bench.specs.Step.{Call, opening, closing, packet, tick, report, received, transmitter, side, keeping, after, acceptedCalls}
 use Rattle.record.specs.declared.seat.Seat.{Seat}
 use Rattle.record.specs.declared.whole.Bench.{Bench}
 use Rattle.demands.specs.ExactCalls.{refusalsOf}
@@ -34,12 +34,12 @@ seatThrough (c ∷ cs) n s = seatThrough cs n (seatAfter c n s)
 
 pub record SeatsByCalls : Type 0 where
   pub seat-after : (b : Bench) (c : Call) → length (b .seats) ≡ 8 → NoCase (refusalsOf b c) → (n : ℕ)
-      → seatOf (step b c .bench .seats) n ≡ seatAfter c n (seatOf (b .seats) n)
+      → seatOf (keeping b c .bench .seats) n ≡ seatAfter c n (seatOf (b .seats) n)
   -- a seat is what the accepted calls made of it
   pub seat-story : (b : Bench) (cs : List Call) → length (b .seats) ≡ 8 → (n : ℕ)
-      → seatOf (after b cs .seats) n ≡ seatThrough (acceptedCalls b cs) n (seatOf (b .seats) n)
+      → seatOf (after keeping b cs .seats) n ≡ seatThrough (acceptedCalls keeping b cs) n (seatOf (b .seats) n)
   -- and so is the bench: calls that are refused might as well not have been made
-  pub accepted-alone : (b : Bench) (cs : List Call) → after b cs ≡ after b (acceptedCalls b cs)
-  pub eight-seats : (b : Bench) (c : Call) → length (step b c .bench .seats) ≡ length (b .seats)
+  pub accepted-alone : (b : Bench) (cs : List Call) → after keeping b cs ≡ after keeping b (acceptedCalls keeping b cs)
+  pub eight-seats : (b : Bench) (c : Call) → length (keeping b c .bench .seats) ≡ length (b .seats)
   -- "Every set-up is allowed, and it stays fixed."
-  pub setup-kept : (b : Bench) (c : Call) → step b c .bench .setup ≡ b .setup
+  pub setup-kept : (b : Bench) (c : Call) → keeping b c .bench .setup ≡ b .setup

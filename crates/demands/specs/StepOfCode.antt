@@ -14,7 +14,7 @@ use Rattle.seats.specs.Answers.{openAnswer, doneAnswer}
 use Rattle.hearing.specs.Hearing.{audioIn}
 use Rattle.reporting.specs.Reporting.{reportBuffer}
 use Rattle.hearing.specs.Answers.{packetAnswer}
-use Rattle.bench.specs.Step.{opening, closing, packet, tick, report, received, transmitter, side, Said, done, own, heard, ticked, written, Outcome, step}
+use Rattle.bench.specs.Step.{opening, closing, packet, tick, report, received, transmitter, side, Said, done, own, heard, ticked, written, Outcome, keeping}
 use Rattle.record.specs.declared.whole.Bench.{Bench}
 use Rattle.seats.specs.declared.ticking.SeatSets.{SeatSets}
 use Rattle.hearing.specs.declared.hearing.Hearing.{Hearing}
@@ -59,23 +59,23 @@ pub record StepOfCode : Type 1 where
   -- the calls of the bench
   pub starts : Gives the-record.whole.Bench.fresh.Reads.Learnt (λ k (setup, end) r e. r ≡ freshBench setup)
   pub opens : Gives seats.«open».Reads.Learnt
-      (λ k (b, (n, (request, end))) r e. did (mapped own (openAnswer (r .answer))) (r .bench) ≡ step b (opening n request))
+      (λ k (b, (n, (request, end))) r e. did (mapped own (openAnswer (r .answer))) (r .bench) ≡ keeping b (opening n request))
   pub closes : Gives seats.close.Reads.Learnt
-      (λ k (b, (n, end)) r e. did (mapped wasDone (doneAnswer (r .answer))) (r .bench) ≡ step b (closing n))
+      (λ k (b, (n, end)) r e. did (mapped wasDone (doneAnswer (r .answer))) (r .bench) ≡ keeping b (closing n))
   -- with the audio that `audio` hands out for its answer
   pub hears : Gives hearing.packet.Reads.Learnt (λ k (b, (n, (p, end))) r e.
-      did (mapped (heardWith (audioIn (packetAnswer (r .answer)) (now p))) (packetAnswer (r .answer))) (r .bench) ≡ step b (packet n (now p)))
+      did (mapped (heardWith (audioIn (packetAnswer (r .answer)) (now p))) (packetAnswer (r .answer))) (r .bench) ≡ keeping b (packet n (now p)))
   pub hands-out : Gives hearing.audio.Reads.Learnt (λ k (answer, (p, end)) sound e. now sound ≡ audioIn (packetAnswer answer) (now p))
   pub ticks : Gives seats.tick.Reads.Learnt
-      (λ k (b, (ms, end)) r e. did (mapped (tickedSets (r .seats)) (doneAnswer (r .answer))) (r .bench) ≡ step b (tick ms))
+      (λ k (b, (ms, end)) r e. did (mapped (tickedSets (r .seats)) (doneAnswer (r .answer))) (r .bench) ≡ keeping b (tick ms))
   pub reports : Gives reporting.report.Reads.Learnt (λ k (b, (n, (timestamp, (audio, (out, end))))) r e.
       did (mapped (inFront (now (e .1 .1 .1 .1 .0))) (writtenAnswer (r .answer))) (r .bench)
-      ≡ step b (report n timestamp (now audio) (length (now out))))
+      ≡ keeping b (report n timestamp (now audio) (length (now out))))
   -- "Bytes past its length stay", and all of them where it is refused
   pub leaves : Gives reporting.report.Reads.Learnt (λ k (b, (n, (timestamp, (audio, (out, end))))) r e.
       now (e .1 .1 .1 .1 .0) ≡ reportBuffer b n timestamp (now audio) (now out))
   pub receives : Gives seats.received.Reads.Learnt
-      (λ k (b, (signals, (level, end))) r e. did (accepted done) r ≡ step b (received signals level))
-  pub transmits : Gives seats.transmitter.Reads.Learnt (λ k (b, (healthy, end)) r e. did (accepted done) r ≡ step b (transmitter healthy))
+      (λ k (b, (signals, (level, end))) r e. did (accepted done) r ≡ keeping b (received signals level))
+  pub transmits : Gives seats.transmitter.Reads.Learnt (λ k (b, (healthy, end)) r e. did (accepted done) r ≡ keeping b (transmitter healthy))
   pub sides : Gives seats.side.Reads.Learnt
-      (λ k (b, (standby, end)) r e. did (mapped wasDone (doneAnswer (r .answer))) (r .bench) ≡ step b (side standby))
+      (λ k (b, (standby, end)) r e. did (mapped wasDone (doneAnswer (r .answer))) (r .bench) ≡ keeping b (side standby))

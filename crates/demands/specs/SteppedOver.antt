@@ -12,7 +12,7 @@ use Rattle.packet.specs.Items.{Item, ddcType}
 use Rattle.packet.specs.Refusals.{accepted}
 use Rattle.reader.specs.Reading.{messageOf, itemsHere, read}
 use Rattle.writer.specs.Writing.{encode, writable}
-use Rattle.bench.specs.Step.{packet, step}
+use Rattle.bench.specs.Step.{packet, keeping}
 use Rattle.packet.specs.declared.message.Direction.{Direction}
 use Rattle.packet.specs.declared.message.Message.{Message}
 use Rattle.record.specs.declared.whole.Bench.{Bench}
@@ -47,7 +47,7 @@ pub record Alike (p : List ℕ) (words : ℕ) (is : List Item) : Type 0 where
   pub audio : payload (relaid words is p) ≡ payload p
   -- all that the bench answers (missing packets, reply now, the side in use, the audio's bytes, or a refusal), and the bench after
   -- it; where the audio lies in the packet follows the words
-  pub heard : (b : Bench) (n : ℕ) → step b (packet n (relaid words is p)) ≡ step b (packet n p)
+  pub heard : (b : Bench) (n : ℕ) → keeping b (packet n (relaid words is p)) ≡ keeping b (packet n p)
 
 -- "Writers never write it."
 abbrev pub NeverWritten : Type 0

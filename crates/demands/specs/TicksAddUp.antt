@@ -11,7 +11,8 @@ use Rattle.base.specs.Lists.{howMany}
 use Rattle.packet.specs.Refusals.{accepted}
 use Rattle.record.specs.Record.{noSuchSeat, seatOf}
 use Rattle.seats.specs.Ticking.{longestTick, tooLong, noSeats, tickSets}
-use Rattle.bench.specs.Step.{tick, ticked, step, after}
+use Rattle.air.specs.Air.{benchAir}
+use Rattle.bench.specs.Step.{tick, ticked, keeping, after}
 use Rattle.record.specs.declared.whole.Bench.{Bench}
 use Rattle.demands.specs.Kept.{Kept}
 
@@ -31,30 +32,31 @@ isIn set n = not (noSuchSeat n) && getD set (n - 1) false
 
 -- A tick of x and then one of y, and the merged one: the same bench in every field, and the same told but for the one difference.
 pub record MayMerge (b : Bench) (x y : ℕ) : Type 0 where
-  pub bench : after b (tick x ∷ tick y ∷ []) ≡ after b (tick (x + y) ∷ [])
+  pub bench : after keeping b (tick x ∷ tick y ∷ []) ≡ after keeping b (tick (x + y) ∷ [])
   pub seats : (n : ℕ) →
       let first = tickSets b x in
-      let second = tickSets (after b (tick x ∷ [])) y in
+      let second = tickSets (after keeping b (tick x ∷ [])) y in
       let merged = tickSets b (x + y) in
       ToldAlike (isIn (first .closed) n) (isIn (second .closed) n) (isIn (merged .closed) n)
-      (isIn (first .due) n) (isIn (second .due) n) (isIn (merged .due) n) (seatOf (after b (tick (x + y) ∷ []) .seats) n .opened)
+      (isIn (first .due) n) (isIn (second .due) n) (isIn (merged .due) n) (seatOf (after keeping b (tick (x + y) ∷ []) .seats) n .opened)
 
 unfoldable pub time : List ℕ → ℕ
 time [] = 0
 time (ms ∷ more) = ms + time more
 
 abbrev pub ZeroChangesNothing : Bench → Type 0
-ZeroChangesNothing b = step b (tick 0) ≡ record { answer = accepted (ticked (noSeats .closed) (noSeats .due)); bench = b }
+ZeroChangesNothing b = keeping b (tick 0) ≡ record { answer = accepted (ticked (noSeats .closed) (noSeats .due)); bench = b }
 
 pub record TicksAddUp : Type 0 where
   -- Of any bench, whatever it holds: what a tick of at most 1000 ms answers, and that two of them may be merged.
-  pub told : (b : Bench) (ms : ℕ) → ms ≤ longestTick → step b (tick ms) .answer ≡ accepted (ticked (tickSets b ms .closed) (tickSets b ms .due))
+  pub told : (b : Bench) (ms : ℕ) → ms ≤ longestTick → keeping b (tick ms) .answer ≡ accepted (ticked (tickSets b ms .closed) (tickSets b ms .due))
   pub two-ticks : (b : Bench) (x y : ℕ) → x + y ≤ longestTick → MayMerge b x y
   -- Runs of ticks that take the same time, each of some ticks and none above 1000 ms, leave the same bench: merge at will.
   pub same-time : (b : Bench) (x y : ℕ) (xs ys : List ℕ) → howMany tooLong (x ∷ xs) ≡ 0 → howMany tooLong (y ∷ ys) ≡ 0
-      → time (x ∷ xs) ≡ time (y ∷ ys) → after b (map tick (x ∷ xs)) ≡ after b (map tick (y ∷ ys))
-  -- Of every bench that calls lead to (Kept). Of any other, with eight seats, exactly if each open seat has time left and a phase
-  -- below its period.
-  pub zero : (b : Bench) → Kept b → ZeroChangesNothing b
+      → time (x ∷ xs) ≡ time (y ∷ ys) → after keeping b (map tick (x ∷ xs)) ≡ after keeping b (map tick (y ∷ ys))
+  -- Of every bench that calls lead to (Kept, AirKept). Of any other, with eight seats, exactly if the air in the record is right and each
+  -- open seat has time left and a phase below its period.
+  pub zero : (b : Bench) → Kept b → b .air ≡ benchAir b → ZeroChangesNothing b
   pub zero-exactly : (b : Bench) → length (b .seats) ≡ 8
-      → ZeroChangesNothing b ↔ ((n : ℕ) → let s = seatOf (b .seats) n in s .opened ≡ true → (1 ≤ s .left) × (s .phase < s .period))
+      → ZeroChangesNothing b
+      ↔ ((b .air ≡ benchAir b) × ((n : ℕ) → let s = seatOf (b .seats) n in s .opened ≡ true → (1 ≤ s .left) × (s .phase < s .period)))

@@ -71,6 +71,7 @@ pub record TightReader : Type 1 where
 pub record TightWriter : Type 1 where
   pub write-tx : OneResultAndBuffer writer.write_tx.Reads.Learnt (λ k e. e .1 .1 .1 .0)
   pub write-rx : OneResultAndBuffer writer.write_rx.Reads.Learnt (λ k e. e .1 .1 .1 .0)
+  pub put-rx : OneResultAndBuffer writer.put_rx.Reads.Learnt (λ k e. e .1 .1 .1 .0)
 
 pub record TightRecord : Type 1 where
   pub opened : OneResult the-record.seat.Seat.opened.Reads.Learnt
@@ -95,7 +96,7 @@ pub record TightSeats : Type 1 where
 
 pub record TightAir : Type 1 where
   pub keyed : OneResult air.air.keyed.Reads.Learnt
-  pub bench-air : OneResult air.bench_air.Reads.Learnt
+  pub aired : OneResult air.aired.Reads.Learnt
   pub moved-last : OneResult air.order.moved_last.Reads.Learnt
   pub order-after : OneResult air.order_after.Reads.Learnt
 

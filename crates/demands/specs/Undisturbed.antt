@@ -7,7 +7,7 @@ use mathlib.Core.List.{List, []}
 use Rattle.packet.specs.Refusals.{Answer, accepted, refused}
 use Rattle.record.specs.Record.{seatNumbers, lesson, freshBench}
 use Rattle.air.specs.Air.{benchAir}
-use Rattle.bench.specs.Step.{Call, packet, report, Said, done, own, heard, ticked, written, step, after}
+use Rattle.bench.specs.Step.{Call, packet, report, Said, done, own, heard, ticked, written, keeping, after}
 use Rattle.record.specs.declared.setup.Setup.{Setup}
 use Rattle.record.specs.declared.whole.Bench.{Bench}
 use Rattle.demands.specs.Apart.{withoutLessons, liveAboveTest}
@@ -23,10 +23,10 @@ audioSent (refused n cause) = []
 -- b after the run, e after the same run without its lesson calls
 pub record AsIfAlone (setup : Setup) (b e : Bench) : Type 0 where
   pub air : liveAboveTest b seatNumbers ≡ true → benchAir b ≡ benchAir e
-  pub audio : (n : ℕ) (p : List ℕ) → liveAboveTest (step b (packet n p) .bench) seatNumbers ≡ true
-      → audioSent (step b (packet n p) .answer) ≡ audioSent (step e (packet n p) .answer)
+  pub audio : (n : ℕ) (p : List ℕ) → liveAboveTest (keeping b (packet n p) .bench) seatNumbers ≡ true
+      → audioSent (keeping b (packet n p) .answer) ≡ audioSent (keeping e (packet n p) .answer)
   pub reports : (n timestamp : ℕ) (sound : List ℕ) (room : ℕ) → lesson setup n ≡ false → liveAboveTest b seatNumbers ≡ true
-      → step b (report n timestamp sound room) .answer ≡ step e (report n timestamp sound room) .answer
+      → keeping b (report n timestamp sound room) .answer ≡ keeping e (report n timestamp sound room) .answer
 
 abbrev pub Undisturbed : Type 0
-Undisturbed = (setup : Setup) (run : List Call) → AsIfAlone setup (after (freshBench setup) run) (after (freshBench setup) (withoutLessons setup run))
+Undisturbed = (setup : Setup) (run : List Call) → AsIfAlone setup (after keeping (freshBench setup) run) (after keeping (freshBench setup) (withoutLessons setup run))

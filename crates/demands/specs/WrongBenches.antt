@@ -10,30 +10,26 @@ use lib.ListN.{drop}
 use Rattle.packet.specs.Packet.{off, normal}
 use Rattle.packet.specs.Refusals.{Answer, accepted, refused, mapped}
 use Rattle.record.specs.Record.{seatOf, freshBench}
-use Rattle.bench.specs.Step.{Call, opening, closing, packet, tick, report, received, transmitter, side, Said, done, own, heard, ticked, written, Outcome, step, after}
+use Rattle.bench.specs.Step.{Call, opening, closing, packet, tick, report, received, transmitter, side, Said, done, own, heard, ticked, written, Outcome, Machine, keeping, after}
 use Rattle.record.specs.declared.setup.Setup.{Setup}
 use Rattle.record.specs.declared.whole.Bench.{Bench}
 use Rattle.demands.specs.Examples.{around}
 use Rattle.demands.specs.Apart.{withoutLessons, pttOf, Apart}
 use Rattle.demands.specs.LessonsSeen.{lab, enters, voice, keys, asked, answer}
 
--- What answers calls, right or wrong.
-abbrev pub Machine : Type 0
-Machine = Bench → Call → Outcome
-
--- "For every input each public function's promise leaves one possible answer, one next state": those of step.
+-- "For every input each public function's promise leaves one possible answer, one next state": those of keeping.
 abbrev pub Keeps : Machine → Type 0
-Keeps machine = (b : Bench) (c : Call) → machine b c ≡ step b c
+Keeps machine = (b : Bench) (c : Call) → machine b c ≡ keeping b c
 
 -- The same of one call after a run: the promise on the answer, and the promise on the next state.
 abbrev pub labAfter : List Call → Bench
-labAfter run = after (freshBench lab) run
+labAfter run = after keeping (freshBench lab) run
 
 abbrev pub Answers : Machine → List Call → Call → Type 0
 Answers machine run c = machine (labAfter run) c .answer ≡ answer run c
 
 abbrev pub Leaves : Machine → List Call → Call → Type 0
-Leaves machine run c = machine (labAfter run) c .bench ≡ step (labAfter run) c .bench
+Leaves machine run c = machine (labAfter run) c .bench ≡ keeping (labAfter run) c .bench
 
 -- The five, whatever numbers, bytes, answers or count they take; each else as right as it can be.
 pub data WrongBench : Type 0 where
@@ -57,9 +53,9 @@ withCount count (heard missing reply standby sound) = heard count reply standby 
 withCount count (ticked closed due) = ticked closed due
 withCount count (written bytes) = written bytes
 
--- step, but for what it says
+-- keeping, but for what it says
 abbrev pub retold : (Said → Said) → Machine
-retold tell b c = record { answer = mapped tell (step b c .answer); bench = step b c .bench }
+retold tell b c = record { answer = mapped tell (keeping b c .answer); bench = keeping b c .bench }
 
 -- a packet that is not its seat's first
 abbrev pub isLater : Bench → Call → Bool
@@ -80,18 +76,13 @@ abbrev pub wrong : WrongBench → Machine
 wrong (refusing number cause) b c = record { answer = refused (number b c) (cause b c); bench = b }
 wrong (repeating bytes) b c = retold (withBytes bytes) b c
 wrong (ignoring says) b c = record { answer = says b c; bench = b }
-wrong nodding b c = cond (isLater b c) (nod b) (step b c)
+wrong nodding b c = cond (isLater b c) (nod b) (keeping b c)
 wrong (inventing count) b c = retold (withCount count) b c
-
--- The bench after a run of calls of a machine.
-unfoldable pub afterBy : Machine → Bench → List Call → Bench
-afterBy machine b [] = b
-afterBy machine b (c ∷ cs) = afterBy machine (machine b c .bench) cs
 
 -- Demand 3 taken alone, of a machine's own runs.
 abbrev pub ApartAlone : Machine → Type 0
 ApartAlone machine = (setup : Setup) (xs ys : List Call) → withoutLessons setup xs ≡ withoutLessons setup ys
-    → Apart machine setup (afterBy machine (freshBench setup) xs) (afterBy machine (freshBench setup) ys)
+    → Apart machine setup (after machine (freshBench setup) xs) (after machine (freshBench setup) ys)
 
 -- The runs before the calls that are tried.
 abbrev pub entered : List Call
@@ -113,8 +104,8 @@ pub record Tried : Type 0 where
   pub first-report : answer entered (asked 1) ≡ accepted (written (quietReport 1))
   pub second-report : answer reported (asked 1) ≡ accepted (written (quietReport 2))
   pub was-closed : seatOf (labAfter [] .seats) 1 .opened ≡ false
-  pub is-open : seatOf (step (labAfter []) (enters 1) .bench .seats) 1 .opened ≡ true
-  pub releases : pttOf (step (labAfter spoken) (keys 1 off 2) .bench) 1 ≡ off
+  pub is-open : seatOf (keeping (labAfter []) (enters 1) .bench .seats) 1 .opened ≡ true
+  pub releases : pttOf (keeping (labAfter spoken) (keys 1 off 2) .bench) 1 ≡ off
   pub nod-releases-not : pttOf (wrong nodding (labAfter spoken) (keys 1 off 2) .bench) 1 ≡ normal
   pub not-twice : answer spoken (keys 1 normal 1) ≡ refused 20 0
   pub nod-twice : wrong nodding (labAfter spoken) (keys 1 normal 1) .answer ≡ accepted (heard 0 false false [])

@@ -147,9 +147,17 @@ qualityCallIn s = do
   level ← levelIn (lastOf s 1)
   Is (call.Quality level)
 
+-- A call that is its name alone.
+abbrev pub alone : List ℕ → Call → Said Call
+alone s said = cond (eqb (length (lastOf s 0)) 0) Not (Is said)
+
+-- "air"
+unfoldable pub airIn : List ℕ → Said Call
+airIn s = alone s call.Air
+
 -- "help"
 unfoldable pub helpIn : List ℕ → Said Call
-helpIn s = cond (eqb (length (lastOf s 0)) 0) Not (Is call.Help)
+helpIn s = alone s call.Help
 
 -- A call's line, and the word of it that gives bytes.
 pub record Line : Type 0 where
@@ -184,12 +192,13 @@ lines s room =
     ∷ readIn s room with-bytes lastOf s 2
     ∷ writeIn s room
     ∷ plain (qualityCallIn s)
+    ∷ plain (airIn s)
     ∷ plain (helpIn s)
     ∷ []
 
 -- Which of them the first word names; a place behind them where it names none.
 unfoldable pub namedIn : List ℕ → ℕ
-namedIn s = choiceOf (wordOf s 0) (text "setup open close tick packet report received transmitter side read write quality help")
+namedIn s = choiceOf (wordOf s 0) (text "setup open close tick packet report received transmitter side read write quality air help")
 
 unfoldable pub lineIn : List ℕ → (room : ℕ) → Line
 lineIn s room = getD (lines s room) (namedIn s) (plain Not)
@@ -217,6 +226,10 @@ too-large = refl
 one-too-many : callIn (text "close 7 8") 0 ≡ call.Wrong
 unfolding callIn lineIn namedIn closeIn _>>=_ byteIn lastOf wordOf wordAt leading choiceOf firstFrom same numberIn numberFrom valueFrom allDigits digitOf
 one-too-many = refl
+
+name-alone : callIn (text "air 7") 0 ≡ call.Wrong
+unfolding callIn lineIn namedIn airIn lastOf wordOf wordAt leading choiceOf firstFrom same
+name-alone = refl
 
 no-words : callIn (text " # close 7") 0 ≡ call.Nothing
 unfolding callIn lineIn namedIn closeIn _>>=_ byteIn lastOf wordOf wordAt leading choiceOf firstFrom same numberIn numberFrom valueFrom allDigits digitOf

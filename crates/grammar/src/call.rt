@@ -44,6 +44,7 @@ pub enum Call {
         lent: Lent,
     },
     Quality(i16),
+    Air,
     Help,
     // A line that is no call.
     Wrong,

@@ -2,7 +2,7 @@
 // behind it, is empty, and says nothing.
 ghost use mathlib.Core.Path.{_≡_};
 ghost use lib.ListN.{length};
-ghost use Rattle.grammar.specs.Grammar.{namedIn, callIn, bytesIn, orWrong, closeIn, tickIn, receivedIn, transmitterIn, sideCallIn, qualityCallIn, helpIn};
+ghost use Rattle.grammar.specs.Grammar.{namedIn, callIn, bytesIn, orWrong, closeIn, tickIn, receivedIn, transmitterIn, sideCallIn, qualityCallIn, airIn, helpIn};
 ghost use Rattle.grammar.specs.Pieces.{bytesWord, writeBytes, saidWith, setupWith, openWith, packetWith, reportWith, readWith, writeTxWith, writeRxWith, writeWith};
 use crate::call::Call;
 use crate::messages::RxSaid;
@@ -38,7 +38,7 @@ pub fn named(s: &[u8]) -> usize
 {
     choice(
         word(s, 0),
-        b"setup open close tick packet report received transmitter side read write quality help",
+        b"setup open close tick packet report received transmitter side read write quality air help",
     )
 }
 
@@ -95,7 +95,8 @@ fn said(s: &[u8], name: usize, given: BytesRead) -> Call
         9 => read(s, given),
         10 => write(s, given),
         11 => quality(s),
-        12 => help(s),
+        12 => air(s),
+        13 => help(s),
         _ => Call::Wrong,
     }
 }
@@ -253,6 +254,16 @@ fn quality(s: &[u8]) -> Call
     match level(last(s, 1)) {
         LevelRead::Is(level) => Call::Quality(level),
         LevelRead::Not => Call::Wrong,
+    }
+}
+
+fn air(s: &[u8]) -> Call
+    ensures { λ r. ⌜ r ≡ orWrong (airIn (now (s .entry))) ⌝ }
+{
+    if last(s, 0).len() == 0 {
+        Call::Wrong
+    } else {
+        Call::Air
     }
 }
 

@@ -1,5 +1,5 @@
 -- The packet's call in steps: 13 and 14, then the reader's 1 to 12, then 19 to 23 of the message.
-use Prim.Native.Nat.{ℕ, _+_, _≤_, _<_, min}
+use Prim.Native.Nat.{ℕ, _+_, _-_, _≤_, _<_, min}
 use mathlib.Core.Path.{_≡_, refl, ap, sym, _∙_}
 use mathlib.Core.Bool.{Bool, true, false, cond, not}
 use mathlib.Core.List.{List, [], _++_}
@@ -22,7 +22,8 @@ use Rattle.packet.proofs.Judged.{andThen, judged-mapped, by-verdict, meets-none
 use Rattle.reader.proofs.Passed.{Passed, length-most}
 use Rattle.record.specs.Record.{noSuchSeat, placeOf, closedSeat, seatOf}
 use Rattle.seats.specs.Opening.{seatRefusals, seatVerdict}
-use Rattle.hearing.specs.Hearing.{fieldHeard, messageIn, messageRefusals, packetRefusals, packetSaid, heardBench, sameField, isOnAir, isSent, hearing, audioIn, audioAt}
+use Rattle.air.specs.Air.{aired}
+use Rattle.hearing.specs.Hearing.{fieldHeard, messageIn, messageRefusals, packetRefusals, packetSaid, heardBench, sameField, isSent, hearing, audioIn, audioAt}
 use Rattle.hearing.specs.Pieces.{Whole, messageVerdict, letIn, admitted}
 use Rattle.record.specs.declared.setup.Setup.{Setup}
 use Rattle.record.specs.declared.seat.Field.{Field}
@@ -138,8 +139,9 @@ module _ (b : Bench) (n : ℕ) (p : List ℕ) (s : Seat) (i : ℕ) (at-place : i
 
 -- what the call answers, from what the functions that it calls answered
 pub hearing-told : (b : Bench) (n : ℕ) (p : List ℕ) {s : Seat} {m : Tx} {after : Bench} {sent same : Bool} {new : Field} {lost at long : ℕ}
-    → s ≡ seatOf (b .seats) n → messageIn p ≡ m → after ≡ heardBench b n m → sent ≡ isOnAir after n → new ≡ fieldHeard m → same ≡ sameField (s .heard .field) new
-    → lost ≡ missing (s .heard .any) (s .heard .sequence) (m .sequence) → at ≡ cond sent (payloadAt p) 0 → long ≡ cond sent (length (payload p)) 0
+    → s ≡ seatOf (b .seats) n → messageIn p ≡ m → after ≡ aired (heardBench b n m) → sent ≡ getD (after .air .on) (n - 1) false → new ≡ fieldHeard m
+    → same ≡ sameField (s .heard .field) new → lost ≡ missing (s .heard .any) (s .heard .sequence) (m .sequence)
+    → at ≡ cond sent (payloadAt p) 0 → long ≡ cond sent (length (payload p)) 0
     → _≡_ {A = Hearing} (record { missing = lost; reply = not same; standby = after .standby; at = at; length = long }) (hearing b n p)
 unfolding hearing isSent
 hearing-told b n p seen is left air field compared count place size = simp (size, place, count, compared, field, air, left, ← is, seen)

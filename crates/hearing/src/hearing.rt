@@ -1,19 +1,21 @@
 // A packet for a seat.
 ghost use mathlib.Core.Path.{_≡_};
 ghost use mathlib.Core.Bool.{false, cond};
-ghost use lib.ListN.{length};
+ghost use Prim.Native.Nat.{_-_};
+ghost use lib.ListN.{length, getD};
 ghost use Rattle.base.specs.Bytes.{LiesAt};
 ghost use Rattle.packet.specs.Packet.{payload, payloadAt};
 ghost use Rattle.record.specs.Record.{noSuchSeat, settled};
+ghost use Rattle.air.specs.Air.{aired};
 ghost use Rattle.reader.specs.Reading.{txAnswer};
-ghost use Rattle.hearing.specs.Hearing.{messageIn, heardBench, isOnAir, packetSaid, audioIn, audioAt};
+ghost use Rattle.hearing.specs.Hearing.{messageIn, heardBench, packetSaid, audioIn, audioAt};
 ghost use Rattle.hearing.specs.Answers.{packetAnswer};
 ghost use Rattle.hearing.specs.Pieces.{Whole, admitted, letIn};
 use crate::admission::message_verdict;
 use crate::memory::field_heard;
 use crate::memory::heard_bench;
 use crate::memory::same_field;
-use air::air::bench_air;
+use air::aired;
 use base::missing;
 use base::part;
 use packet::Refusal;
@@ -52,7 +54,7 @@ pub struct Packeted {
 // A packet for seat n: what it answers, and the bench after it. Refused by 13, 14, 1 to 12, 19 to 23, in this order.
 pub fn packet(b: Bench, n: u8, p: &[u8]) -> Packeted
     ensures answer { λ r. ⌜ packetAnswer (r .answer) ≡ packetSaid b n (now (p .entry)) ⌝ }
-    ensures bench { λ r. ⌜ r .bench ≡ settled (packetSaid b n (now (p .entry))) b (heardBench b n (messageIn (now (p .entry)))) ⌝ }
+    ensures bench { λ r. ⌜ r .bench ≡ settled (packetSaid b n (now (p .entry))) b (aired (heardBench b n (messageIn (now (p .entry))))) ⌝ }
 {
     let setup = b.setup;
     let i = place(n);
@@ -64,7 +66,8 @@ pub fn packet(b: Bench, n: u8, p: &[u8]) -> Packeted
             answer: PacketAnswer::Refused(r),
         },
         TxRead::Message(m) => {
-            let after = heard_bench(b, n, s, m);
+            let moved = heard_bench(b, n, s, m);
+            let after = aired(moved);
             let sent = on_air(after, n);
             let heard = s.heard;
             let old = heard.field;
@@ -131,11 +134,12 @@ fn let_in(setup: Setup, n: u8, s: Seat, m: Tx) -> TxRead
     }
 }
 
+// As the record shows it.
 fn on_air(b: Bench, n: u8) -> bool
     requires { ⌜ noSuchSeat n ≡ false ⌝ }
-    ensures { λ r. ⌜ r ≡ isOnAir b n ⌝ }
+    ensures { λ r. ⌜ r ≡ getD (b .air .on) (n - 1) false ⌝ }
 {
-    let air = bench_air(b);
+    let air = b.air;
     air.on[(n - 1) as usize]
 }
 

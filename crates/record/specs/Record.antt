@@ -10,6 +10,7 @@ use Rattle.record.specs.declared.setup.Setup.{Setup}
 use Rattle.record.specs.declared.seat.Field.{Field}
 use Rattle.record.specs.declared.seat.Heard.{Heard}
 use Rattle.record.specs.declared.seat.Seat.{Seat}
+use Rattle.record.specs.declared.shown.Air.{Air}
 use Rattle.record.specs.declared.whole.Bench.{Bench}
 
 -- "A library for a ground radio with eight seats."
@@ -47,6 +48,10 @@ openedSeat call period multiplier ssrc =
       heard = nothingHeard;
     }
 
+-- What is shown of the air while nobody is on it.
+abbrev pub nobody : Air
+nobody = record { on = replicate 8 false; leads = replicate 8 false; id = 0; ptt = 0; ptts = false }
+
 -- "At the start no seat is open, main is in use, the transmitter is healthy, no signal is received."
 unfoldable pub freshBench : Setup → Bench
 freshBench setup =
@@ -59,6 +64,7 @@ freshBench setup =
       healthy = true;
       signals = 0;
       level = pos 0;
+      air = nobody;
     }
 
 -- Where the seat of a number stands; 0 for what is no seat's number.
@@ -86,6 +92,7 @@ withSeats b seats =
       healthy = b .healthy;
       signals = b .signals;
       level = b .level;
+      air = b .air;
     }
 
 abbrev pub withSequences : Bench → List ℕ → Bench
@@ -99,6 +106,7 @@ withSequences b sequences =
       healthy = b .healthy;
       signals = b .signals;
       level = b .level;
+      air = b .air;
     }
 
 abbrev pub withOrder : Bench → List ℕ → Bench
@@ -112,6 +120,7 @@ withOrder b order =
       healthy = b .healthy;
       signals = b .signals;
       level = b .level;
+      air = b .air;
     }
 
 abbrev pub withSide : Bench → (standby : Bool) → Bench
@@ -125,6 +134,7 @@ withSide b standby =
       healthy = b .healthy;
       signals = b .signals;
       level = b .level;
+      air = b .air;
     }
 
 abbrev pub withHealth : Bench → (healthy : Bool) → Bench
@@ -138,6 +148,7 @@ withHealth b healthy =
       healthy = healthy;
       signals = b .signals;
       level = b .level;
+      air = b .air;
     }
 
 abbrev pub withSignals : Bench → (signals : ℕ) (level : ℤ) → Bench
@@ -151,6 +162,21 @@ withSignals b signals level =
       healthy = b .healthy;
       signals = signals;
       level = level;
+      air = b .air;
+    }
+
+abbrev pub withAir : Bench → Air → Bench
+withAir b air =
+    record {
+      setup = b .setup;
+      seats = b .seats;
+      sequences = b .sequences;
+      order = b .order;
+      standby = b .standby;
+      healthy = b .healthy;
+      signals = b .signals;
+      level = b .level;
+      air = air;
     }
 
 -- One seat, and the sequence number of its next report.

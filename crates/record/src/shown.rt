@@ -1,4 +1,4 @@
-// What is shown of the air: who is on it, and what reports tell of it. Crate `air` works it out.
+// What is shown of the air: who is on it, and what reports tell of it. Crate `air` works it out, and the bench keeps it.
 
 #[repr(C)]
 pub struct Air {
@@ -10,4 +10,14 @@ pub struct Air {
     // the top type, 0 for off
     pub ptt: u8,
     pub ptts: bool,
+}
+
+impl Air {
+    pub const NOBODY: Air = Air {
+        on: [false; 8],
+        leads: [false; 8],
+        id: 0,
+        ptt: 0,
+        ptts: false,
+    };
 }

@@ -3,6 +3,7 @@ ghost use mathlib.Core.Path.{_≡_};
 ghost use Rattle.record.specs.Record.{freshBench};
 use crate::seat::Seat;
 use crate::setup::Setup;
+use crate::shown::Air;
 
 #[repr(C)]
 pub struct Bench {
@@ -17,10 +18,12 @@ pub struct Bench {
     pub signals: u8,
     // of the signal received, in tenths of a dBm
     pub level: i16,
+    // who is on the air and what reports tell of it; every accepted call but a report leaves it right
+    pub air: Air,
 }
 
 impl Bench {
-    // No seat is open, main is in use, the transmitter is healthy, no signal is received.
+    // No seat is open, main is in use, the transmitter is healthy, no signal is received; so nobody is on the air.
     pub fn fresh(setup: Setup) -> Bench
         ensures { λ r. ⌜ r ≡ freshBench setup ⌝ }
     {
@@ -34,6 +37,7 @@ impl Bench {
             healthy: true,
             signals: 0,
             level: 0,
+            air: Air::NOBODY,
         }
     }
 }

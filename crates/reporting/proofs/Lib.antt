@@ -1,2 +1,3 @@
-pub mod Accepted
 pub mod ReportLaws
+pub mod Told
+pub mod Accepted

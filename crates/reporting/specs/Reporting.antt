@@ -16,7 +16,6 @@ use Rattle.packet.specs.declared.message.SideItem.the-variants as side
 use Rattle.packet.specs.declared.message.Rx.{Rx}
 use Rattle.record.specs.Record.{seatOf, withSequence}
 use Rattle.seats.specs.Opening.{seatRefusals}
-use Rattle.air.specs.Air.{benchAir}
 use Rattle.record.specs.declared.whole.Bench.{Bench}
 use Rattle.record.specs.declared.shown.Air.{Air}
 
@@ -40,24 +39,25 @@ sqiTold signals level = cond (squTold signals) (sqi.Is (quality level) rssi) sqi
 abbrev pub sideTold : (pair standby : Bool) → SideItem
 sideTold pair standby = cond pair (cond standby side.Standby side.Main) side.Absent
 
--- The report as a message: "PM: the seat's own last PM."
+-- The report as a message: "PM: the seat's own last PM." Who is on the air it reads from the record (02, request 5: "let reports
+-- read them"), whatever stands there.
 unfoldable pub reportOf : Bench → (n timestamp : ℕ) → Rx
 reportOf b n timestamp =
     record {
       sequence = getD (b .sequences) (n - 1) 0;
       timestamp = timestamp;
       ssrc = seatOf (b .seats) n .ssrc;
-      ptt = benchAir b .ptt;
+      ptt = b .air .ptt;
       squ = squTold (b .signals);
-      id = idTold (benchAir b) n;
+      id = idTold (b .air) n;
       pm = seatOf (b .seats) n .heard .field .pm;
-      ptts = benchAir b .ptts;
+      ptts = b .air .ptts;
       sct = sctTold (b .signals);
       sqi = sqiTold (b .signals) (b .level);
       side = sideTold (b .setup .pair) (b .standby);
     }
 
--- and as bytes, by the writer of RX messages
+-- and as bytes, by the writer of RX messages below 27
 unfoldable pub reportBytes : Bench → (n timestamp : ℕ) → (audio : List ℕ) → List ℕ
 reportBytes b n timestamp sound = encode (b .setup .ext) (fromRx (reportOf b n timestamp)) sound
 

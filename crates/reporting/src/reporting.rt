@@ -3,12 +3,11 @@ ghost use mathlib.Core.Path.{_≡_};
 ghost use mathlib.Core.Bool.{false};
 ghost use Prim.Native.Nat.{_+_, _%_};
 ghost use lib.ListN.{length};
-ghost use Rattle.writer.specs.Writing.{fromRx, write, buffered, writtenAnswer};
+ghost use Rattle.writer.specs.Writing.{fromRx, put, afterPut, writtenAnswer};
 ghost use Rattle.packet.specs.Refusals.{verdictOf};
 ghost use Rattle.record.specs.Record.{noSuchSeat, settled};
 ghost use Rattle.reporting.specs.Reporting.{idTold, sqiTold, sideTold, audioBarred, reportOf, reportSaid, reportBuffer, reportedBench};
 ghost use Rattle.reporting.specs.Pieces.{reportVerdict};
-use air::air::bench_air;
 use packet::Refusal;
 use packet::Rx;
 use packet::SideItem;
@@ -21,7 +20,7 @@ use record::Bench;
 use record::place;
 use seats::opening::seat_verdict;
 use writer::Written;
-use writer::write_rx;
+use writer::put_rx;
 
 pub struct Reported {
     pub bench: Bench,
@@ -29,7 +28,7 @@ pub struct Reported {
 }
 
 // A report for seat n, written into `out`: its length, and the bench with the next sequence number. Refused by 13, 14, 25, 26,
-// in this order; what a report tells is always writable, so that 27 never comes.
+// in this order. It tells the air that the record keeps, and works nothing out.
 pub fn report(b: Bench, n: u8, timestamp: u32, audio: &[u8], out: &mut [u8]) -> Reported
     ensures answer { λ r. ⌜ writtenAnswer (r .answer) ≡ reportSaid b n timestamp (now (audio .entry)) (length (now (out .entry))) ⌝ }
     ensures buffer { λ _. ⌜ now (out .exit) ≡ reportBuffer b n timestamp (now (audio .entry)) (now (out .entry)) ⌝ }
@@ -76,13 +75,13 @@ fn audio_barred(signals: u8, audio: usize) -> bool
 // The report written, and the bench with the next sequence number if it was.
 fn written(b: Bench, n: u8, timestamp: u32, audio: &[u8], out: &mut [u8]) -> Reported
     requires { ⌜ noSuchSeat n ≡ false ⌝ }
-    ensures answer { λ r. ⌜ writtenAnswer (r .answer) ≡ write (b .setup .ext) (fromRx (reportOf b n timestamp)) (now (audio .entry)) (length (now (out .entry))) ⌝ }
-    ensures buffer { λ _. ⌜ now (out .exit) ≡ buffered (b .setup .ext) (fromRx (reportOf b n timestamp)) (now (audio .entry)) (now (out .entry)) ⌝ }
+    ensures answer { λ r. ⌜ writtenAnswer (r .answer) ≡ put (b .setup .ext) (fromRx (reportOf b n timestamp)) (now (audio .entry)) (length (now (out .entry))) ⌝ }
+    ensures buffer { λ _. ⌜ now (out .exit) ≡ afterPut (b .setup .ext) (fromRx (reportOf b n timestamp)) (now (audio .entry)) (now (out .entry)) ⌝ }
     ensures bench { λ r. ⌜ r .bench ≡ settled (writtenAnswer (r .answer)) b (reportedBench b n) ⌝ }
 {
     let setup = b.setup;
     let m = report_of(b, n, timestamp);
-    let answer = write_rx(setup.ext, m, audio, out);
+    let answer = put_rx(setup.ext, m, audio, out);
     match answer {
         Written::Refused(_) => Reported { bench: b, answer },
         Written::Length(_) => Reported {
@@ -102,7 +101,7 @@ fn report_of(b: Bench, n: u8, timestamp: u32) -> Rx
     let s = b.seats[i];
     let heard = s.heard;
     let field = heard.field;
-    let air = bench_air(b);
+    let air = b.air;
     Rx {
         sequence: b.sequences[i],
         timestamp,

@@ -13,6 +13,7 @@ use Rattle.packet.specs.declared.refusal.Refusal.{Refusal}
 use Rattle.packet.specs.declared.refusal.Verdict.{Verdict}
 use Rattle.packet.specs.declared.refusal.Verdict.the-variants as verdict
 use Rattle.record.specs.Record.{noSuchSeat, seatOf, lesson, closedSeat, settled}
+use Rattle.air.specs.Air.{aired}
 use Rattle.seats.specs.Opening.{callCode, mayKey, asksCoupling, timesAllowed, holdsCoupling, anyCoupling, ownId, openRefusals, openSaid, openedBench, seatRefusals, seatVerdict, closeSaid, closedBench}
 use Rattle.seats.specs.Answers.{openAnswer}
 use Rattle.record.specs.declared.seat.Seat.{Seat}
@@ -117,10 +118,11 @@ module _ (b : Bench) (n : ℕ) (r : Request) (a : OpenAnswer) (said : openAnswer
   unfolding openSaid
   opened-seat id e = open-accepted (b .setup) n (b .seats) r (meets-none (openRefusals (b .setup) n (b .seats) r) _ id (sym said ∙ ap openAnswer e) .0) .is-seat
 
-  pub opened-moves : (id : ℕ) (next : Bench) → a ≡ opening.Opened id → next ≡ openedBench b n r → next ≡ settled (openSaid b n r) b (openedBench b n r)
-  opened-moves id next e m = rw (← said, e) m
+  pub opened-moves : (id : ℕ) (made next : Bench) → a ≡ opening.Opened id → made ≡ openedBench b n r → next ≡ aired made
+      → next ≡ settled (openSaid b n r) b (aired (openedBench b n r))
+  opened-moves id made next e m right = rw (← said, e) (right ∙ ap aired m)
 
-  pub opened-stays : (x : Refusal) → a ≡ opening.Refused x → b ≡ settled (openSaid b n r) b (openedBench b n r)
+  pub opened-stays : (x : Refusal) → a ≡ opening.Refused x → b ≡ settled (openSaid b n r) b (aired (openedBench b n r))
   opened-stays x e = rw (← said, e)
 
 module _ (b : Bench) (n : ℕ) (v : Verdict) (opened : Bool) (here : opened ≡ seatOf (b .seats) n .opened) (said : verdictOf v ≡ seatVerdict n opened) where
@@ -131,13 +133,14 @@ module _ (b : Bench) (n : ℕ) (v : Verdict) (opened : Bool) (here : opened ≡ 
   pub close-done : v ≡ verdict.Fine → accepted tt ≡ closeSaid b n
   close-done e = cc as-closed
 
-  pub closed-moves : (next : Bench) → v ≡ verdict.Fine → next ≡ closedBench b n → next ≡ settled (closeSaid b n) b (closedBench b n)
-  closed-moves next e m = rw (← as-closed, e) m
+  pub closed-moves : (made next : Bench) → v ≡ verdict.Fine → made ≡ closedBench b n → next ≡ aired made
+      → next ≡ settled (closeSaid b n) b (aired (closedBench b n))
+  closed-moves made next e m right = rw (← as-closed, e) (right ∙ ap aired m)
 
   pub close-refused : (x : Refusal) → v ≡ verdict.Refused x → refusal x ≡ closeSaid b n
   close-refused x e = cc as-closed
 
-  pub closed-stays : (x : Refusal) → v ≡ verdict.Refused x → b ≡ settled (closeSaid b n) b (closedBench b n)
+  pub closed-stays : (x : Refusal) → v ≡ verdict.Refused x → b ≡ settled (closeSaid b n) b (aired (closedBench b n))
   closed-stays x e = rw (← as-closed, e)
 
 -- ---- 18 not met

@@ -1,9 +1,10 @@
 -- The cases of the side event, as the answers of the code ask for them.
-use mathlib.Core.Path.{_≡_}
+use mathlib.Core.Path.{_≡_, ap, _∙_}
 use mathlib.Core.Bool.{Bool, true, false}
 use borrow.Author.Needs.{needs}
 use Rattle.packet.specs.Refusals.{accepted, refused}
 use Rattle.record.specs.Record.{settled, withSide}
+use Rattle.air.specs.Air.{aired}
 use Rattle.seats.specs.Radio.{sideRefusals, sideSaid}
 use Rattle.record.specs.declared.whole.Bench.{Bench}
 
@@ -16,10 +17,11 @@ module _ (b : Bench) where
   unfolding sideSaid sideRefusals
   side-done h = simp h
 
-  pub side-stays : (standby : Bool) → b .setup .pair ≡ false → b ≡ settled (sideSaid b) b (withSide b standby)
+  pub side-stays : (standby : Bool) → b .setup .pair ≡ false → b ≡ settled (sideSaid b) b (aired (withSide b standby))
   side-stays standby h = rw (← side-23 h)
 
-  pub side-moves : (standby : Bool) (next : Bench) → b .setup .pair ≡ true → next ≡ withSide b standby → next ≡ settled (sideSaid b) b (withSide b standby)
-  side-moves standby next h e = rw (← side-done h) e
+  pub side-moves : (standby : Bool) (made next : Bench) → b .setup .pair ≡ true → made ≡ withSide b standby → next ≡ aired made
+      → next ≡ settled (sideSaid b) b (aired (withSide b standby))
+  side-moves standby made next h m right = rw (← side-done h) (right ∙ ap aired m)
 
 pub ruleset radioCases = (side-23, side-done, side-stays, side-moves, needs)

@@ -1,6 +1,6 @@
 -- The cases of a tick, as the answers of the code ask for them.
 use Prim.Native.Nat.{ℕ, zero, _%_, _<_, _≤_}
-use mathlib.Core.Path.{_≡_, refl, sym, _∙_}
+use mathlib.Core.Path.{_≡_, refl, ap, sym, _∙_}
 use mathlib.Core.Bool.{Bool, true, false, cond}
 use mathlib.Core.List.{List, map}
 use native.Mathlib.Nat.{mod-lt}
@@ -13,6 +13,7 @@ use Rattle.base.proofs.Loops.{fill-more, fill-done}
 use Rattle.base.proofs.Truths.{and-left, and-right, choice-true, choice-false}
 use Rattle.packet.specs.Refusals.{accepted, refused}
 use Rattle.record.specs.Record.{closedSeat, settled}
+use Rattle.air.specs.Air.{aired}
 use Rattle.seats.specs.Ticking.{nothingLeft, fallsSilent, isDue, aged, tickedSeat, longestTick, tickRefusals, tickSaid, noSeats, tickSets, tickedBench}
 use Rattle.record.specs.declared.seat.Seat.{Seat}
 use Rattle.record.specs.declared.whole.Bench.{Bench}
@@ -64,7 +65,7 @@ module _ (b : Bench) (ms : ℕ) (h : longestTick < ms) where
   unfolding tickSets
   tick-none = simp (lt-ltb _ _ h)
 
-  pub tick-stays : b ≡ settled (tickSaid ms) b (tickedBench b ms)
+  pub tick-stays : b ≡ settled (tickSaid ms) b (aired (tickedBench b ms))
   tick-stays = rw (← tick-24)
 
 module _ (b : Bench) (ms : ℕ) (h : ms ≤ longestTick) where
@@ -77,8 +78,8 @@ module _ (b : Bench) (ms : ℕ) (h : ms ≤ longestTick) where
   unfolding tickSets
   tick-tells closed due e f = simp (le-ltb _ _ h, e, f)
 
-  pub tick-moves : (next : Bench) → next ≡ tickedBench b ms → next ≡ settled (tickSaid ms) b (tickedBench b ms)
-  tick-moves next e = rw (← tick-done) e
+  pub tick-moves : (made next : Bench) → made ≡ tickedBench b ms → next ≡ aired made → next ≡ settled (tickSaid ms) b (aired (tickedBench b ms))
+  tick-moves made next m right = rw (← tick-done) (right ∙ ap aired m)
 
 pub ruleset phaseCases = (rest-fits, choice-true, choice-false, eq-eqb, ne-eqb, le-leb, lt-leb, needs)
 

@@ -3,10 +3,12 @@ ghost use mathlib.Core.Path.{_≡_};
 ghost use mathlib.Core.Bool.{false};
 ghost use Rattle.packet.specs.Refusals.{verdictOf};
 ghost use Rattle.record.specs.Record.{noSuchSeat, settled};
+ghost use Rattle.air.specs.Air.{aired};
 ghost use Rattle.seats.specs.Opening.{callCode, mayKey, asksCoupling, timesAllowed, holdsCoupling, anyCoupling, ownId, openSaid, openedBench, seatVerdict, closeSaid, closedBench};
 ghost use Rattle.seats.specs.Answers.{openAnswer, doneAnswer};
 use crate::answer::Done;
 use crate::answer::DoneAnswer;
+use air::aired;
 use packet::Refusal;
 use packet::Verdict;
 use record::Bench;
@@ -55,14 +57,18 @@ pub struct Opened {
 // Opens a seat. The answer is its own ptt-id.
 pub fn open(b: Bench, n: u8, r: Request) -> Opened
     ensures answer { λ o. ⌜ openAnswer (o .answer) ≡ openSaid b n r ⌝ }
-    ensures bench { λ o. ⌜ o .bench ≡ settled (openSaid b n r) b (openedBench b n r) ⌝ }
+    ensures bench { λ o. ⌜ o .bench ≡ settled (openSaid b n r) b (aired (openedBench b n r)) ⌝ }
 {
     let answer = open_answer(b, n, r);
     match answer {
-        OpenAnswer::Opened(_) => Opened {
-            bench: opened_bench(b, n, r),
-            answer,
-        },
+        OpenAnswer::Opened(_) => {
+            let opened = opened_bench(b, n, r);
+            let next = aired(opened);
+            Opened {
+                bench: next,
+                answer,
+            }
+        }
         OpenAnswer::Refused(_) => Opened { bench: b, answer },
     }
 }
@@ -70,7 +76,7 @@ pub fn open(b: Bench, n: u8, r: Request) -> Opened
 // Closes a seat. It can be opened again at once.
 pub fn close(b: Bench, n: u8) -> Done
     ensures answer { λ d. ⌜ doneAnswer (d .answer) ≡ closeSaid b n ⌝ }
-    ensures bench { λ d. ⌜ d .bench ≡ settled (closeSaid b n) b (closedBench b n) ⌝ }
+    ensures bench { λ d. ⌜ d .bench ≡ settled (closeSaid b n) b (aired (closedBench b n)) ⌝ }
 {
     let seats = b.seats;
     let verdict = seat_verdict(n, is_open(seats, n));
@@ -79,10 +85,14 @@ pub fn close(b: Bench, n: u8) -> Done
             bench: b,
             answer: DoneAnswer::Refused(r),
         },
-        Verdict::Fine => Done {
-            bench: closed_bench(b, n),
-            answer: DoneAnswer::Done,
-        },
+        Verdict::Fine => {
+            let closed = closed_bench(b, n);
+            let next = aired(closed);
+            Done {
+                bench: next,
+                answer: DoneAnswer::Done,
+            }
+        }
     }
 }
 

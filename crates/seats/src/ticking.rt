@@ -3,9 +3,11 @@ ghost use mathlib.Core.Path.{_≡_};
 ghost use mathlib.Core.List.{map};
 ghost use Prim.Native.Nat.{_<_};
 ghost use Rattle.record.specs.Record.{settled};
+ghost use Rattle.air.specs.Air.{aired};
 ghost use Rattle.seats.specs.Ticking.{nothingLeft, fallsSilent, phaseAfter, isDue, aged, tickedSeat, silenceCause, tickSaid, tickSets, tickedBench};
 ghost use Rattle.seats.specs.Answers.{doneAnswer};
 use crate::answer::DoneAnswer;
+use air::aired;
 use packet::Refusal;
 use record::Bench;
 use record::Seat;
@@ -37,7 +39,7 @@ impl SeatSets {
 pub fn tick(b: Bench, ms: u16) -> Ticked
     ensures answer { λ t. ⌜ doneAnswer (t .answer) ≡ tickSaid ms ⌝ }
     ensures seats { λ t. ⌜ t .seats ≡ tickSets b ms ⌝ }
-    ensures bench { λ t. ⌜ t .bench ≡ settled (tickSaid ms) b (tickedBench b ms) ⌝ }
+    ensures bench { λ t. ⌜ t .bench ≡ settled (tickSaid ms) b (aired (tickedBench b ms)) ⌝ }
 {
     if LONGEST < ms {
         return Ticked {
@@ -49,8 +51,10 @@ pub fn tick(b: Bench, ms: u16) -> Ticked
     let seats = b.seats;
     let closed = silent_seats(seats, ms);
     let due = due_seats(seats, ms);
+    let ticked = ticked_bench(b, ms);
+    let next = aired(ticked);
     Ticked {
-        bench: ticked_bench(b, ms),
+        bench: next,
         answer: DoneAnswer::Done,
         seats: SeatSets { closed, due },
     }

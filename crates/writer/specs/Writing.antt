@@ -135,6 +135,14 @@ filled (refused n c) packet buffer = buffer
 unfoldable pub buffered : (ext : ℕ) → Message → (audio buffer : List ℕ) → List ℕ
 buffered ext m audio buffer = filled (write ext m audio (length buffer)) (encode ext m audio) buffer
 
+-- 02, request 5: below 27, what is written of a message whatever its values are, each cut to its bits: refused with 26 alone.
+-- (A report tells the air that the record keeps, and a record made by hand may hold one that 27 would turn away.)
+unfoldable pub put : (ext : ℕ) → Message → (audio : List ℕ) → (room : ℕ) → Answer ℕ
+put ext m audio room = judged (26 if ltb room (length (encode ext m audio)) ∷ []) (length (encode ext m audio))
+
+unfoldable pub afterPut : (ext : ℕ) → Message → (audio buffer : List ℕ) → List ℕ
+afterPut ext m audio buffer = filled (put ext m audio (length buffer)) (encode ext m audio) buffer
+
 -- The answer of the code, as 01 writes it.
 abbrev pub writtenAnswer : Written → Answer ℕ
 writtenAnswer (written.Length n) = accepted n

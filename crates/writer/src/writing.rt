@@ -1,7 +1,7 @@
-// The writers: refusals 27 and 26, then the packet in its plain form (plain.rt).
+// The writers: refusals 27 and 26, then the packet in its plain form (plain.rt). `put_rx` is below 27.
 ghost use mathlib.Core.Path.{_≡_};
 ghost use lib.ListN.{length};
-ghost use Rattle.writer.specs.Writing.{fromTx, fromRx, sqiWritable, climaxWritable, audioWritable, writable, write, buffered, writtenAnswer};
+ghost use Rattle.writer.specs.Writing.{fromTx, fromRx, sqiWritable, climaxWritable, audioWritable, writable, write, buffered, put, afterPut, writtenAnswer};
 use crate::plain::fewest_words;
 use crate::plain::put_packet;
 use packet::ClimaxItem;
@@ -34,6 +34,14 @@ pub fn write_rx(ext: u16, m: Rx, audio: &[u8], out: &mut [u8]) -> Written
     ensures { λ _. ⌜ now (out .exit) ≡ buffered ext (fromRx m) (now (audio .entry)) (now (out .entry)) ⌝ }
 {
     write(ext, from_rx(m), audio, out)
+}
+
+// Writes a packet to a voice switch whatever its values are, each cut to its bits: 26 alone. Reports are written by it.
+pub fn put_rx(ext: u16, m: Rx, audio: &[u8], out: &mut [u8]) -> Written
+    ensures { λ r. ⌜ writtenAnswer r ≡ put ext (fromRx m) (now (audio .entry)) (length (now (out .entry))) ⌝ }
+    ensures { λ _. ⌜ now (out .exit) ≡ afterPut ext (fromRx m) (now (audio .entry)) (now (out .entry)) ⌝ }
+{
+    put(ext, from_rx(m), audio, out)
 }
 
 fn from_tx(m: Tx) -> Message
@@ -82,24 +90,30 @@ fn from_rx(m: Rx) -> Message
     }
 }
 
-// 27 and 26, in this order; then the packet.
+// 27 first; then as `put`.
 fn write(ext: u16, m: Message, audio: &[u8], out: &mut [u8]) -> Written
     ensures { λ r. ⌜ writtenAnswer r ≡ write ext m (now (audio .entry)) (length (now (out .entry))) ⌝ }
     ensures { λ _. ⌜ now (out .exit) ≡ buffered ext m (now (audio .entry)) (now (out .entry)) ⌝ }
 {
-    let fine = writable(m, audio.len());
-    let items = m.items;
-    let needed = 16 + 4 * (fewest_words(items) as usize) + audio.len();
-    let fits = needed <= out.len();
-    if fine {
-        if fits {
-            put_packet(ext, m, audio, out);
-            Written::Length(needed)
-        } else {
-            Written::Refused(Refusal::BufferTooShort)
-        }
+    if writable(m, audio.len()) {
+        put(ext, m, audio, out)
     } else {
         Written::Refused(Refusal::UnwritableValue)
+    }
+}
+
+// 26 alone, or the packet.
+fn put(ext: u16, m: Message, audio: &[u8], out: &mut [u8]) -> Written
+    ensures { λ r. ⌜ writtenAnswer r ≡ put ext m (now (audio .entry)) (length (now (out .entry))) ⌝ }
+    ensures { λ _. ⌜ now (out .exit) ≡ afterPut ext m (now (audio .entry)) (now (out .entry)) ⌝ }
+{
+    let items = m.items;
+    let needed = 16 + 4 * (fewest_words(items) as usize) + audio.len();
+    if needed <= out.len() {
+        put_packet(ext, m, audio, out);
+        Written::Length(needed)
+    } else {
+        Written::Refused(Refusal::BufferTooShort)
     }
 }
 

@@ -12,14 +12,14 @@ use Rattle.seats.specs.Opening.{callCode, openedBench, closedBench}
 use Rattle.seats.specs.Ticking.{tickedSeat, tickedBench}
 use Rattle.hearing.specs.Hearing.{heardSeat, heardBench, messageIn}
 use Rattle.reporting.specs.Reporting.{reportedBench}
-use Rattle.bench.specs.Step.{Call, opening, closing, packet, tick, report, received, transmitter, side, Said, step, after, wasAccepted, acceptedCalls}
+use Rattle.bench.specs.Step.{Call, opening, closing, packet, tick, report, received, transmitter, side, Said, keeping, after, wasAccepted, acceptedCalls}
 use Rattle.record.specs.declared.seat.Seat.{Seat}
 use Rattle.record.specs.declared.whole.Bench.{Bench}
 use Rattle.demands.specs.ExactCalls.{refusalsOf}
 use Rattle.demands.specs.SeatAfter.{seatAfter, seatThrough, SeatsByCalls}
 use Rattle.demands.proofs.Demand1.Exact.{exact-judged}
-use Rattle.demands.proofs.Demand1.Calls.{saidBy, benchAfter, step-answer, accepted-bench, after-call}
-use Rattle.demands.proofs.Demand1.ExactCalls.{refused-keeps}
+use Rattle.demands.proofs.Demand1.Calls.{saidBy, benchAfter, call-answer, accepted-bench, after-call}
+use Rattle.bench.proofs.Keeping.{refused-keeps}
 use Rattle.seats.proofs.Accepted.{open-accepted, seat-accepted}
 use Rattle.hearing.proofs.Accepted.{packet-accepted}
 use Rattle.record.proofs.Seats.{seat-put, seat-changed}
@@ -37,7 +37,7 @@ same-setup b (received signals level) = refl
 same-setup b (transmitter healthy) = refl
 same-setup b (side standby) = refl
 
-pub setup-kept : (b : Bench) (c : Call) → step b c .bench .setup ≡ b .setup
+pub setup-kept : (b : Bench) (c : Call) → keeping b c .bench .setup ≡ b .setup
 setup-kept b c = after-call (λ (x : Bench). x .setup ≡ b .setup) b c refl (λ none. same-setup b c)
 
 pub as-many-seats : (b : Bench) (c : Call) → length (benchAfter b c .seats) ≡ length (b .seats)
@@ -51,7 +51,7 @@ as-many-seats b (received signals level) = refl
 as-many-seats b (transmitter healthy) = refl
 as-many-seats b (side standby) = refl
 
-pub eight-seats : (b : Bench) (c : Call) → length (step b c .bench .seats) ≡ length (b .seats)
+pub eight-seats : (b : Bench) (c : Call) → length (keeping b c .bench .seats) ≡ length (b .seats)
 eight-seats b c = after-call (λ (x : Bench). length (x .seats) ≡ length (b .seats)) b c refl (λ none. as-many-seats b c)
 
 -- ---- one seat
@@ -78,40 +78,40 @@ seat-made b (transmitter healthy) eight none n = refl
 seat-made b (side standby) eight none n = refl
 
 pub seat-after : (b : Bench) (c : Call) → length (b .seats) ≡ 8 → NoCase (refusalsOf b c) → (n : ℕ)
-    → seatOf (step b c .bench .seats) n ≡ seatAfter c n (seatOf (b .seats) n)
+    → seatOf (keeping b c .bench .seats) n ≡ seatAfter c n (seatOf (b .seats) n)
 seat-after b c eight none n = ap (λ (x : Bench). seatOf (x .seats) n) (accepted-bench b c none) ∙ seat-made b c eight none n
 
 -- ---- a run
 
-pub none-held : (b : Bench) (c : Call) (s : Said) → step b c .answer ≡ accepted s → NoCase (refusalsOf b c)
-none-held b c s e = exact-judged (saidBy b c) (refusalsOf b c) .meets-none s (sym (step-answer b c) ∙ e)
+pub none-held : (b : Bench) (c : Call) (s : Said) → keeping b c .answer ≡ accepted s → NoCase (refusalsOf b c)
+none-held b c s e = exact-judged (saidBy b c) (refusalsOf b c) .meets-none s (sym (call-answer b c) ∙ e)
 
 pub seat-story : (b : Bench) (cs : List Call) → length (b .seats) ≡ 8 → (n : ℕ)
-    → seatOf (after b cs .seats) n ≡ seatThrough (acceptedCalls b cs) n (seatOf (b .seats) n)
+    → seatOf (after keeping b cs .seats) n ≡ seatThrough (acceptedCalls keeping b cs) n (seatOf (b .seats) n)
 unfolding after acceptedCalls seatThrough
 seat-story b [] eight n = refl
 seat-story b (c ∷ cs) eight n =
-    seat-story (step b c .bench) cs (eight-seats b c ∙ eight) n ∙ by-answer (step b c .answer) refl
+    seat-story (keeping b c .bench) cs (eight-seats b c ∙ eight) n ∙ by-answer (keeping b c .answer) refl
   where
     rest : List Call
-    rest = acceptedCalls (step b c .bench) cs
+    rest = acceptedCalls keeping (keeping b c .bench) cs
 
-    by-answer : (a : Answer Said) → step b c .answer ≡ a
-        → seatThrough rest n (seatOf (step b c .bench .seats) n) ≡ seatThrough (cond (wasAccepted a) (c ∷ rest) rest) n (seatOf (b .seats) n)
+    by-answer : (a : Answer Said) → keeping b c .answer ≡ a
+        → seatThrough rest n (seatOf (keeping b c .bench .seats) n) ≡ seatThrough (cond (wasAccepted a) (c ∷ rest) rest) n (seatOf (b .seats) n)
     by-answer (accepted s) e = ap (seatThrough rest n) (seat-after b c eight (none-held b c s e) n)
     by-answer (refused k cause) e = ap (λ (x : Bench). seatThrough rest n (seatOf (x .seats) n)) (refused-keeps b c k cause e)
 
-pub accepted-alone : (b : Bench) (cs : List Call) → after b cs ≡ after b (acceptedCalls b cs)
+pub accepted-alone : (b : Bench) (cs : List Call) → after keeping b cs ≡ after keeping b (acceptedCalls keeping b cs)
 unfolding after acceptedCalls
 accepted-alone b [] = refl
-accepted-alone b (c ∷ cs) = accepted-alone (step b c .bench) cs ∙ by-answer (step b c .answer) refl
+accepted-alone b (c ∷ cs) = accepted-alone (keeping b c .bench) cs ∙ by-answer (keeping b c .answer) refl
   where
     rest : List Call
-    rest = acceptedCalls (step b c .bench) cs
+    rest = acceptedCalls keeping (keeping b c .bench) cs
 
-    by-answer : (a : Answer Said) → step b c .answer ≡ a → after (step b c .bench) rest ≡ after b (cond (wasAccepted a) (c ∷ rest) rest)
+    by-answer : (a : Answer Said) → keeping b c .answer ≡ a → after keeping (keeping b c .bench) rest ≡ after keeping b (cond (wasAccepted a) (c ∷ rest) rest)
     by-answer (accepted s) e = refl
-    by-answer (refused k cause) e = ap (λ (x : Bench). after x rest) (refused-keeps b c k cause e)
+    by-answer (refused k cause) e = ap (λ (x : Bench). after keeping x rest) (refused-keeps b c k cause e)
 
 pub seats-by-calls : SeatsByCalls
 seats-by-calls = record { seat-after = seat-after; seat-story = seat-story; accepted-alone = accepted-alone; eight-seats = eight-seats; setup-kept = setup-kept }

@@ -6,9 +6,10 @@ use Rattle.record.specs.Record.{settled, withSide, withHealth, withSignals}
 use Rattle.seats.specs.Opening.{ownId, callCode, openSaid, openedBench, closeSaid, closedBench, seatVerdict}
 use Rattle.seats.specs.Ticking.{tickSaid, tickSets, tickedBench}
 use Rattle.seats.specs.Radio.{sideSaid}
+use Rattle.air.specs.Air.{aired}
 use Rattle.hearing.specs.Hearing.{packetSaid, hearing, heardBench, messageIn}
 use Rattle.reporting.specs.Reporting.{reportSaid, reportBytes, reportedBench}
-use Rattle.bench.specs.Step.{Call, opening, closing, packet, tick, report, received, transmitter, side, Said, done, own, ticked, written, told, step}
+use Rattle.bench.specs.Step.{Call, opening, closing, packet, tick, report, received, transmitter, side, Said, done, own, ticked, written, told, does, keeping}
 use Rattle.record.specs.declared.whole.Bench.{Bench}
 use Rattle.demands.specs.ExactCalls.{refusalsOf}
 use Rattle.packet.proofs.Judged.{judged-both, judged-one, judged-mapped, accepts}
@@ -26,47 +27,47 @@ saidBy b (side standby) = done
 
 -- what it then makes of the bench
 abbrev pub benchAfter : Bench → Call → Bench
-benchAfter b (opening n r) = openedBench b n r
-benchAfter b (closing n) = closedBench b n
-benchAfter b (packet n p) = heardBench b n (messageIn p)
-benchAfter b (tick ms) = tickedBench b ms
+benchAfter b (opening n r) = aired (openedBench b n r)
+benchAfter b (closing n) = aired (closedBench b n)
+benchAfter b (packet n p) = aired (heardBench b n (messageIn p))
+benchAfter b (tick ms) = aired (tickedBench b ms)
 benchAfter b (report n timestamp sound room) = reportedBench b n
-benchAfter b (received signals level) = withSignals b signals level
-benchAfter b (transmitter healthy) = withHealth b healthy
-benchAfter b (side standby) = withSide b standby
+benchAfter b (received signals level) = aired (withSignals b signals level)
+benchAfter b (transmitter healthy) = aired (withHealth b healthy)
+benchAfter b (side standby) = aired (withSide b standby)
 
 -- the value does not matter for whether the bench moves
 settled-judged : {A B : Type 0} (cs : List Case) (a : A) (b : B) (before after : Bench)
     → settled (judged cs a) before after ≡ settled (judged cs b) before after
 settled-judged cs a b before after = judged-both (λ x y. settled x before after ≡ settled y before after) cs a b (λ n c. refl) (λ none. refl)
 
-pub step-answer : (b : Bench) (c : Call) → step b c .answer ≡ judged (refusalsOf b c) (saidBy b c)
-unfolding step openSaid closeSaid seatVerdict packetSaid tickSaid reportSaid sideSaid
-step-answer b (opening n r) = judged-mapped own (refusalsOf b (opening n r)) (ownId n (callCode (r .call)))
-step-answer b (closing n) = judged-mapped (λ u. done) (refusalsOf b (closing n)) tt
-step-answer b (packet n p) = judged-mapped (told (packetSaid b n p) p) (refusalsOf b (packet n p)) (hearing b n p)
-step-answer b (tick ms) = judged-mapped (λ u. ticked (tickSets b ms .closed) (tickSets b ms .due)) (refusalsOf b (tick ms)) tt
-step-answer b (report n timestamp sound room) =
+pub call-answer : (b : Bench) (c : Call) → keeping b c .answer ≡ judged (refusalsOf b c) (saidBy b c)
+unfolding does openSaid closeSaid seatVerdict packetSaid tickSaid reportSaid sideSaid
+call-answer b (opening n r) = judged-mapped own (refusalsOf b (opening n r)) (ownId n (callCode (r .call)))
+call-answer b (closing n) = judged-mapped (λ u. done) (refusalsOf b (closing n)) tt
+call-answer b (packet n p) = judged-mapped (told (packetSaid b n p) p) (refusalsOf b (packet n p)) (hearing b n p)
+call-answer b (tick ms) = judged-mapped (λ u. ticked (tickSets b ms .closed) (tickSets b ms .due)) (refusalsOf b (tick ms)) tt
+call-answer b (report n timestamp sound room) =
     judged-mapped (λ k. written (reportBytes b n timestamp sound)) (refusalsOf b (report n timestamp sound room)) _
-step-answer b (received signals level) = refl
-step-answer b (transmitter healthy) = refl
-step-answer b (side standby) = judged-mapped (λ u. done) (refusalsOf b (side standby)) tt
+call-answer b (received signals level) = refl
+call-answer b (transmitter healthy) = refl
+call-answer b (side standby) = judged-mapped (λ u. done) (refusalsOf b (side standby)) tt
 
-pub step-bench : (b : Bench) (c : Call) → step b c .bench ≡ settled (judged (refusalsOf b c) (saidBy b c)) b (benchAfter b c)
-unfolding step openSaid closeSaid seatVerdict packetSaid tickSaid reportSaid sideSaid
-step-bench b (opening n r) = settled-judged (refusalsOf b (opening n r)) _ _ b _
-step-bench b (closing n) = settled-judged (refusalsOf b (closing n)) _ _ b _
-step-bench b (packet n p) = settled-judged (refusalsOf b (packet n p)) _ _ b _
-step-bench b (tick ms) = settled-judged (refusalsOf b (tick ms)) _ _ b _
-step-bench b (report n timestamp sound room) = settled-judged (refusalsOf b (report n timestamp sound room)) _ _ b _
-step-bench b (received signals level) = refl
-step-bench b (transmitter healthy) = refl
-step-bench b (side standby) = settled-judged (refusalsOf b (side standby)) _ _ b _
+pub call-bench : (b : Bench) (c : Call) → keeping b c .bench ≡ settled (judged (refusalsOf b c) (saidBy b c)) b (benchAfter b c)
+unfolding does openSaid closeSaid seatVerdict packetSaid tickSaid reportSaid sideSaid
+call-bench b (opening n r) = settled-judged (refusalsOf b (opening n r)) _ _ b _
+call-bench b (closing n) = settled-judged (refusalsOf b (closing n)) _ _ b _
+call-bench b (packet n p) = settled-judged (refusalsOf b (packet n p)) _ _ b _
+call-bench b (tick ms) = settled-judged (refusalsOf b (tick ms)) _ _ b _
+call-bench b (report n timestamp sound room) = settled-judged (refusalsOf b (report n timestamp sound room)) _ _ b _
+call-bench b (received signals level) = refl
+call-bench b (transmitter healthy) = refl
+call-bench b (side standby) = settled-judged (refusalsOf b (side standby)) _ _ b _
 
 -- what holds of the bench, and of what the call makes of it where it is accepted, holds after the call
-pub after-call : (P : Bench → Type 0) (b : Bench) (c : Call) → P b → (NoCase (refusalsOf b c) → P (benchAfter b c)) → P (step b c .bench)
+pub after-call : (P : Bench → Type 0) (b : Bench) (c : Call) → P b → (NoCase (refusalsOf b c) → P (benchAfter b c)) → P (keeping b c .bench)
 after-call P b c old new =
-    subst P (sym (step-bench b c)) (judged-one (λ a. P (settled a b (benchAfter b c))) (refusalsOf b c) (saidBy b c) (λ n k. old) new)
+    subst P (sym (call-bench b c)) (judged-one (λ a. P (settled a b (benchAfter b c))) (refusalsOf b c) (saidBy b c) (λ n k. old) new)
 
-pub accepted-bench : (b : Bench) (c : Call) → NoCase (refusalsOf b c) → step b c .bench ≡ benchAfter b c
-accepted-bench b c none = step-bench b c ∙ ap (λ (a : Answer Said). settled a b (benchAfter b c)) (accepts (saidBy b c) (refusalsOf b c) none)
+pub accepted-bench : (b : Bench) (c : Call) → NoCase (refusalsOf b c) → keeping b c .bench ≡ benchAfter b c
+accepted-bench b c none = call-bench b c ∙ ap (λ (a : Answer Said). settled a b (benchAfter b c)) (accepts (saidBy b c) (refusalsOf b c) none)

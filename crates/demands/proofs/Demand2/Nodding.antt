@@ -8,31 +8,30 @@ use Rattle.base.proofs.Truths.{either-way}
 use Rattle.packet.specs.Refusals.{accepted}
 use Rattle.record.specs.Record.{seatNumbers, lesson, freshBench}
 use Rattle.record.proofs.Seats.{same-lessons}
-use Rattle.bench.specs.Step.{Call, opening, closing, packet, tick, report, received, transmitter, side, heard, step, after}
+use Rattle.bench.specs.Step.{Call, opening, closing, packet, tick, report, received, transmitter, side, heard, Machine, step, keeping, after}
 use Rattle.record.specs.declared.setup.Setup.{Setup}
 use Rattle.record.specs.declared.seat.Seat.{Seat}
 use Rattle.record.specs.declared.whole.Bench.{Bench}
 use Rattle.demands.specs.Apart.{named, withoutLessons, liveAboveTest, fixed, compared}
-use Rattle.demands.specs.WrongBenches.{nodding, isLater, nod, wrong, afterBy, ApartAlone}
+use Rattle.demands.specs.WrongBenches.{nodding, isLater, nod, wrong, ApartAlone}
 use Rattle.demands.proofs.Demand3.WithoutLessons.{low, seat-low}
 use Rattle.demands.proofs.Bench.SeatAfter.{setup-kept}
-use Rattle.demands.proofs.Demand3.LessonSeats.{Held, held-step, held-fresh}
 use Rattle.demands.proofs.Demand3.LessonCalls.{unseen}
-use Rattle.demands.proofs.Demand3.Apart.{ran, matched, its-lesson, low-alike, lessons-apart}
+use Rattle.demands.proofs.Demand3.Apart.{Reached, reached-call, reached-fresh, ran, matched, its-lesson, low-alike, lessons-apart}
 
 -- a run without the packets that are nodded at
-unfoldable handled : Bench → List Call → List Call
-handled b [] = []
-handled b (c ∷ cs) = cond (isLater b c) (handled b cs) (c ∷ handled (step b c .bench) cs)
+unfoldable handled : Machine → Bench → List Call → List Call
+handled machine b [] = []
+handled machine b (c ∷ cs) = cond (isLater b c) (handled machine b cs) (c ∷ handled machine (machine b c .bench) cs)
 
-after-handled : (b : Bench) (cs : List Call) → afterBy (wrong nodding) b cs ≡ after b (handled b cs)
-unfolding afterBy after handled
+after-handled : (b : Bench) (cs : List Call) → after (wrong nodding) b cs ≡ after keeping b (handled keeping b cs)
+unfolding after handled
 after-handled b [] = refl
-after-handled b (c ∷ cs) = by-call (isLater b c) (after-handled b cs) (after-handled (step b c .bench) cs)
+after-handled b (c ∷ cs) = by-call (isLater b c) (after-handled b cs) (after-handled (keeping b c .bench) cs)
   where
-    by-call : (t : Bool) → afterBy (wrong nodding) b cs ≡ after b (handled b cs)
-        → afterBy (wrong nodding) (step b c .bench) cs ≡ after (step b c .bench) (handled (step b c .bench) cs)
-        → afterBy (wrong nodding) (cond t (nod b) (step b c) .bench) cs ≡ after b (cond t (handled b cs) (c ∷ handled (step b c .bench) cs))
+    by-call : (t : Bool) → after (wrong nodding) b cs ≡ after keeping b (handled keeping b cs)
+        → after (wrong nodding) (keeping b c .bench) cs ≡ after keeping (keeping b c .bench) (handled keeping (keeping b c .bench) cs)
+        → after (wrong nodding) (cond t (nod b) (keeping b c) .bench) cs ≡ after keeping b (cond t (handled keeping b cs) (c ∷ handled keeping (keeping b c .bench) cs))
     by-call true nodded stepped = nodded
     by-call false nodded stepped = stepped
 
@@ -47,40 +46,40 @@ later-low b (received signals level) live = refl
 later-low b (transmitter healthy) live = refl
 later-low b (side standby) live = refl
 
-handled-low : (setup : Setup) (b : Bench) (cs : List Call) → b .setup ≡ setup → Held b
-    → withoutLessons setup (handled b cs) ≡ handled (low b) (withoutLessons setup cs)
+handled-low : (setup : Setup) (b : Bench) (cs : List Call) → b .setup ≡ setup → Reached b
+    → withoutLessons setup (handled keeping b cs) ≡ handled step (low b) (withoutLessons setup cs)
 unfolding withoutLessons handled
 handled-low setup b [] e i = refl
 handled-low setup b (c ∷ cs) e i =
     by-seat (lesson setup (named c)) (isLater b c) refl refl (handled-low setup b cs e i)
-    (handled-low setup (step b c .bench) cs (setup-kept b c ∙ e) (held-step b c i))
+    (handled-low setup (keeping b c .bench) cs (setup-kept b c ∙ e) (reached-call b c i))
   where
     by-seat : (t later : Bool) → lesson setup (named c) ≡ t → isLater b c ≡ later
-        → withoutLessons setup (handled b cs) ≡ handled (low b) (withoutLessons setup cs)
-        → withoutLessons setup (handled (step b c .bench) cs) ≡ handled (low (step b c .bench)) (withoutLessons setup cs)
-        → withoutLessons setup (cond later (handled b cs) (c ∷ handled (step b c .bench) cs))
-        ≡ handled (low b) (cond t (withoutLessons setup cs) (c ∷ withoutLessons setup cs))
+        → withoutLessons setup (handled keeping b cs) ≡ handled step (low b) (withoutLessons setup cs)
+        → withoutLessons setup (handled keeping (keeping b c .bench) cs) ≡ handled step (low (keeping b c .bench)) (withoutLessons setup cs)
+        → withoutLessons setup (cond later (handled keeping b cs) (c ∷ handled keeping (keeping b c .bench) cs))
+        ≡ handled step (low b) (cond t (withoutLessons setup cs) (c ∷ withoutLessons setup cs))
     by-seat true true q l nodded stepped = nodded
     by-seat true false q l nodded stepped =
-        simp q (stepped ∙ ap (λ (x : Bench). handled x (withoutLessons setup cs)) (unseen b c (same-lessons e (named c) q)))
+        simp q (stepped ∙ ap (λ (x : Bench). handled step x (withoutLessons setup cs)) (unseen b c (same-lessons e (named c) q)))
     by-seat false true q l nodded stepped = simp (later-low b c (same-lessons e (named c) q), l) nodded
     by-seat false false q l nodded stepped =
         simp (q, later-low b c (same-lessons e (named c) q), l)
-        (ap (c ∷_) (stepped ∙ ap (λ (x : Bench). handled x (withoutLessons setup cs)) (sym (matched b c i (same-lessons e (named c) q) .bench))))
+        (ap (c ∷_) (stepped ∙ ap (λ (x : Bench). handled step x (withoutLessons setup cs)) (sym (matched b c i (same-lessons e (named c) q) .bench))))
 
 module _ (setup : Setup) (xs ys : List Call) (e : withoutLessons setup xs ≡ withoutLessons setup ys) where
   abbrev handledXs : List Call
-  handledXs = handled (freshBench setup) xs
+  handledXs = handled keeping (freshBench setup) xs
 
   abbrev handledYs : List Call
-  handledYs = handled (freshBench setup) ys
+  handledYs = handled keeping (freshBench setup) ys
 
   handled-alike : withoutLessons setup handledXs ≡ withoutLessons setup handledYs
   unfolding freshBench
   handled-alike =
-      handled-low setup (freshBench setup) xs refl (held-fresh setup)
-      ∙ ap (handled (low (freshBench setup))) e
-      ∙ sym (handled-low setup (freshBench setup) ys refl (held-fresh setup))
+      handled-low setup (freshBench setup) xs refl (reached-fresh setup)
+      ∙ ap (handled step (low (freshBench setup))) e
+      ∙ sym (handled-low setup (freshBench setup) ys refl (reached-fresh setup))
 
   low-same : low (ran setup handledXs) ≡ low (ran setup handledYs)
   low-same = low-alike setup handledXs handledYs handled-alike
@@ -104,8 +103,8 @@ module _ (setup : Setup) (xs ys : List Call) (e : withoutLessons setup xs ≡ wi
       → compared setup c (wrong nodding (ran setup handledXs) c) ≡ compared setup c (wrong nodding (ran setup handledYs) c)
   same c live = simp (later-same c live) (by-call (isLater (ran setup handledYs) c))
     where
-      by-call : (t : Bool) → compared setup c (cond t (nod (ran setup handledXs)) (step (ran setup handledXs) c))
-          ≡ compared setup c (cond t (nod (ran setup handledYs)) (step (ran setup handledYs) c))
+      by-call : (t : Bool) → compared setup c (cond t (nod (ran setup handledXs)) (keeping (ran setup handledXs) c))
+          ≡ compared setup c (cond t (nod (ran setup handledYs)) (keeping (ran setup handledYs) c))
       by-call true = nods-same c
       by-call false = lessons-apart setup handledXs handledYs handled-alike .same c live
 
@@ -114,8 +113,8 @@ module _ (setup : Setup) (xs ys : List Call) (e : withoutLessons setup xs ≡ wi
       → wrong nodding (ran setup handledXs) (packet n p) .answer ≡ accepted (heard missing reply standby sound) → sound ≡ []
   no-lesson-audio n p hidden up missing reply standby sound said = by-call (isLater (ran setup handledXs) (packet n p)) up said
     where
-      by-call : (t : Bool) → liveAboveTest (cond t (nod (ran setup handledXs)) (step (ran setup handledXs) (packet n p)) .bench) seatNumbers ≡ true
-          → cond t (nod (ran setup handledXs)) (step (ran setup handledXs) (packet n p)) .answer ≡ accepted (heard missing reply standby sound) → sound ≡ []
+      by-call : (t : Bool) → liveAboveTest (cond t (nod (ran setup handledXs)) (keeping (ran setup handledXs) (packet n p)) .bench) seatNumbers ≡ true
+          → cond t (nod (ran setup handledXs)) (keeping (ran setup handledXs) (packet n p)) .answer ≡ accepted (heard missing reply standby sound) → sound ≡ []
       by-call true u q = cc
       by-call false u q = lessons-apart setup handledXs handledYs handled-alike .no-lesson-audio n p hidden u missing reply standby sound q
 

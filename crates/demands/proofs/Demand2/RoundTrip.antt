@@ -19,7 +19,7 @@ use Rattle.demands.specs.SteppedOver.{NeverWritten}
 use Rattle.packet.proofs.Judged.{meets-none}
 use Rattle.reporting.specs.Reporting.{reportOf, reportRefusals, reportSaid, reportBytes}
 use Rattle.reporting.proofs.Accepted.{report-accepted}
-use Rattle.reporting.proofs.ReportLaws.{report-writable}
+use Rattle.reporting.proofs.Told.{report-writable}
 use Rattle.writer.proofs.Words.{few-words}
 use Rattle.demands.proofs.Demand2.RisingItems.{rising-writes, rising-kept, rising-once, rising-rises, no-ddc, rising-in-tx, rising-in-rx}
 use Rattle.demands.proofs.Demand2.Written.{Writable, writable-is, kind-allowed, kind-narrow, sound-allowed, itemsFor}
@@ -91,7 +91,7 @@ never-written ext m sound narrow fine = ap (hasType ddcType) (items-here ext m s
 
 pub reports-read-back : ReportsReadBack
 unfolding reportBytes reportSaid
-reports-read-back b n timestamp sound room long narrow e =
+reports-read-back b right n timestamp sound room long narrow e =
     let met = report-accepted b n timestamp sound room (meets-none (reportRefusals b n timestamp sound room) _ long e .0) in
     round-trip-rx (b .setup .ext) (reportOf b n timestamp) sound narrow
-    (report-writable b n timestamp (length sound) (met .is-seat) (met .audio-allowed)) .0
+    (report-writable b right n timestamp (length sound) (met .is-seat) (met .audio-allowed)) .0

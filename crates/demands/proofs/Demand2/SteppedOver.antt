@@ -17,9 +17,10 @@ use Rattle.reader.specs.Reading.{messageOf, itemsHere, read, readerRefusals, as
 use Rattle.reader.proofs.Passed.{Passed, accepted-passed}
 use Rattle.writer.specs.Writing.{itemBytes, fieldOf}
 use Rattle.record.specs.Record.{seatOf}
+use Rattle.air.specs.Air.{aired}
 use Rattle.hearing.specs.Hearing.{messageIn, packetRefusals, heardBench, hearing, packetSaid, audioIn}
 use Rattle.hearing.proofs.AudioSent.{sound-is}
-use Rattle.bench.specs.Step.{packet, Said, Outcome, outcome, told, step}
+use Rattle.bench.specs.Step.{packet, Said, Outcome, outcome, told, does, keeping}
 use Rattle.packet.specs.declared.message.Direction.{Direction}
 use Rattle.packet.specs.declared.message.Direction.the-variants.{Tx}
 use Rattle.packet.specs.declared.message.Message.{Message}
@@ -202,14 +203,14 @@ module _ (csrc : List ℕ) (kind ext : ℕ) (m : Message) (sound : List ℕ) (wo
     bench-alike = ap (λ (s : Message). heardBench b n (asTx s)) message-alike
 
     abbrev after : List ℕ → Answer Hearing → Outcome
-    after l a = outcome a (told (packetSaid b n l) l) b (heardBench b n (messageIn l))
+    after l a = outcome a (told (packetSaid b n l) l) b (aired (heardBench b n (messageIn l)))
 
-    heard-alike : step b (packet n q) ≡ step b (packet n p)
-    unfolding step packetSaid
+    heard-alike : keeping b (packet n q) ≡ keeping b (packet n p)
+    unfolding does packetSaid
     heard-alike =
         ap (λ (cs : List Case). after q (judged cs (hearing b n q))) packet-refusals
         ∙ judged-both (λ x y. after q x ≡ after p y) (refusals p) (hearing b n q) (hearing b n p)
-        (λ k c. refl) (λ none. ap₂ (λ (s : Said) (r : Bench). record { answer = accepted s; bench = r }) (said-alike none) bench-alike)
+        (λ k c. refl) (λ none. ap₂ (λ (s : Said) (r : Bench). record { answer = accepted s; bench = r }) (said-alike none) (ap aired bench-alike))
 
   reads-alike : (d : Direction) (asked : ℕ) → read d asked q ≡ read d asked p
   unfolding read
@@ -273,7 +274,7 @@ module _ (d : Direction) (ext : ℕ) (p : List ℕ) (small : Bytes p) (h : Passe
           reads = λ e asked. of-both (λ l. read e asked changed ≡ read e asked l)
               (reads-alike (csrcWords p) (payloadType p) (extensionType p) m (payload p) (wordCount p) words is js f g refl keeps allowed same e asked);
           audio = of-laid.sound-back (csrcWords p) (payloadType p) (extensionType p) words m js (payload p) g;
-          heard = λ b n. of-both (λ l. step b (packet n changed) ≡ step b (packet n l))
+          heard = λ b n. of-both (λ l. keeping b (packet n changed) ≡ keeping b (packet n l))
               (heard-alike (csrcWords p) (payloadType p) (extensionType p) m (payload p) (wordCount p) words is js f g refl keeps allowed same b n);
         }
 

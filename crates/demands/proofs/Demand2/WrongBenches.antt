@@ -19,13 +19,13 @@ use Rattle.air.specs.Air.{takesPart, keyingsOf, keyings, topRank, atRank, leade
 use Rattle.air.specs.Order.{begins, toLast, orderAfter}
 use Rattle.hearing.specs.Hearing.{fieldHeard, keyingBarred, idAllowed, sideBarred, messageRefusals, packetRefusals, heardSeat, takesEffect, sideAfter, heardBench, sameField, isSent, hearing, packetSaid, audioIn}
 use Rattle.reporting.specs.Reporting.{reportOf, reportBytes, reportRefusals, reportSaid, reportedBench}
-use Rattle.bench.specs.Step.{Call, packet, Said, done, own, heard, ticked, written, Outcome, step, after}
+use Rattle.bench.specs.Step.{Call, packet, Said, done, own, heard, ticked, written, Outcome, Machine, does, keeping, after}
 use Rattle.record.specs.declared.setup.Setup.{Setup}
 use Rattle.record.specs.declared.whole.Bench.{Bench}
 use Rattle.demands.specs.Apart.{pttOf, liveAboveTest, blotted, fixed, compared}
 use Rattle.demands.specs.LessonsSeen.{enters, voice, keys, asked}
 use Rattle.demands.specs.Undisturbed.{audioSent}
-use Rattle.demands.specs.WrongBenches.{Machine, Keeps, labAfter, Answers, Leaves, WrongBench, refusing, repeating, ignoring, nodding, inventing, withBytes, withCount, retold, wrong, afterBy, ApartAlone, entered, reported, spoken, quietReport, Tried, WrongBenches}
+use Rattle.demands.specs.WrongBenches.{Keeps, labAfter, Answers, Leaves, WrongBench, refusing, repeating, ignoring, nodding, inventing, withBytes, withCount, retold, wrong, ApartAlone, entered, reported, spoken, quietReport, Tried, WrongBenches}
 use Rattle.packet.proofs.Judged.{never}
 use Rattle.demands.proofs.Demand3.Apart.{lessons-apart}
 use Rattle.demands.proofs.Demand3.Undisturbed.{none-sent, together-then}
@@ -34,7 +34,7 @@ use Rattle.demands.proofs.Demand2.Nodding.{nodding-apart}
 -- ---- the calls that are tried, computed
 
 tried : Tried
-unfolding centred distance late missing payload payloadAllowed fieldAllowed afterField allZero itemsBehind itemAllowed allAllowed hasType noTypeTwice runAllowed itemsAllowed itemsOf sqiAmong climaxAmong sideAmong kept quality readerRefusals itemsHere messageOf risingItems itemBytes wordsOf headOf encode openedSeat freshBench seatOf lesson anyCoupling openRefusals openSaid openedBench takesPart keyingsOf keyings topRank atRank leaders added onAir among smallest howMany anySends airOf benchAir fieldHeard keyingBarred idAllowed sideBarred seatRefusals messageRefusals packetRefusals heardSeat begins toLast orderAfter takesEffect sideAfter heardBench sameField isSent hearing packetSaid audioIn reportOf reportBytes reportRefusals reportSaid reportedBench step after
+unfolding centred distance late missing payload payloadAllowed fieldAllowed afterField allZero itemsBehind itemAllowed allAllowed hasType noTypeTwice runAllowed itemsAllowed itemsOf sqiAmong climaxAmong sideAmong kept quality readerRefusals itemsHere messageOf risingItems itemBytes wordsOf headOf encode openedSeat freshBench seatOf lesson anyCoupling openRefusals openSaid openedBench takesPart keyingsOf keyings topRank atRank leaders added onAir among smallest howMany anySends airOf benchAir fieldHeard keyingBarred idAllowed sideBarred seatRefusals messageRefusals packetRefusals heardSeat begins toLast orderAfter takesEffect sideAfter heardBench sameField isSent hearing packetSaid audioIn reportOf reportBytes reportRefusals reportSaid reportedBench does after
 tried =
     record {
       opens = refl;
@@ -102,8 +102,8 @@ unfolding liveAboveTest freshBench takesPart seatOf
 quiet-start setup = simp and-none
 
 module _ (machine : Machine) (still : (b : Bench) (c : Call) → machine b c .bench ≡ b) where
-  stays : (b : Bench) (cs : List Call) → afterBy machine b cs ≡ b
-  unfolding afterBy
+  stays : (b : Bench) (cs : List Call) → after machine b cs ≡ b
+  unfolding after
   stays b [] = refl
   stays b (c ∷ cs) = stays (machine b c .bench) cs ∙ still b c
 
@@ -126,18 +126,18 @@ record Retelling (tell : Said → Said) : Type 0 where
   same-audio : (s : Said) → audioSent (accepted (tell s)) ≡ audioSent (accepted s)
 
 abbrev aboveTestThen : Setup → List Call → Call → Bool
-aboveTestThen setup run c = liveAboveTest (step (after (freshBench setup) run) c .bench) seatNumbers
+aboveTestThen setup run c = liveAboveTest (keeping (after keeping (freshBench setup) run) c .bench) seatNumbers
 
 module _ (tell : Said → Said) (r : Retelling tell) where
-  after-retold : (b : Bench) (cs : List Call) → afterBy (retold tell) b cs ≡ after b cs
-  unfolding afterBy after
+  after-retold : (b : Bench) (cs : List Call) → after (retold tell) b cs ≡ after keeping b cs
+  unfolding after
   after-retold b [] = refl
-  after-retold b (c ∷ cs) = after-retold (step b c .bench) cs
+  after-retold b (c ∷ cs) = after-retold (keeping b c .bench) cs
 
   compared-retold : (setup : Setup) (c : Call) (b : Bench)
-      → compared setup c (retold tell b c) ≡ mapped (r .seen (liveAboveTest (step b c .bench) seatNumbers)) (compared setup c (step b c))
+      → compared setup c (retold tell b c) ≡ mapped (r .seen (liveAboveTest (keeping b c .bench) seatNumbers)) (compared setup c (keeping b c))
   unfolding compared
-  compared-retold setup c b = by-answer _ _ (step b c .answer)
+  compared-retold setup c b = by-answer _ _ (keeping b c .answer)
     where
       by-answer : (up keysTest : Bool) (a : Answer Said)
           → mapped (fixed setup up keysTest) (mapped tell a) ≡ mapped (r .seen up) (mapped (fixed setup up keysTest) a)
@@ -155,11 +155,11 @@ module _ (tell : Said → Said) (r : Retelling tell) where
       (record {
         together = lessons-apart setup xs ys e .together;
         same = λ c live.
-            compared-retold setup c (after (freshBench setup) xs)
+            compared-retold setup c (after keeping (freshBench setup) xs)
             ∙ ap₂ (λ (up : Bool) (a : Answer Said). mapped (r .seen up) a) (together-after c) (lessons-apart setup xs ys e .same c live)
-            ∙ sym (compared-retold setup c (after (freshBench setup) ys));
+            ∙ sym (compared-retold setup c (after keeping (freshBench setup) ys));
         no-lesson-audio = λ n p hidden up missing reply standby sound said.
-            ap audioSent (sym said) ∙ audio-retold (step (after (freshBench setup) xs) (packet n p) .answer)
+            ap audioSent (sym said) ∙ audio-retold (keeping (after keeping (freshBench setup) xs) (packet n p) .answer)
             ∙ none-sent _ (lessons-apart setup xs ys e .no-lesson-audio n p hidden up);
       })
     where

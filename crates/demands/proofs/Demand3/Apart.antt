@@ -8,81 +8,96 @@ use Rattle.packet.specs.Packet.{test}
 use Rattle.packet.specs.Refusals.{mapped}
 use Rattle.record.specs.Record.{seatNumbers, lesson, freshBench, withHealth, withSignals}
 use Rattle.record.proofs.Seats.{same-lessons}
-use Rattle.bench.specs.Step.{Call, opening, closing, packet, tick, report, received, transmitter, side, done, step, after}
+use Rattle.air.specs.Air.{aired}
+use Rattle.bench.specs.Step.{Call, opening, closing, packet, tick, report, received, transmitter, side, done, does, step, keeping, after}
 use Rattle.record.specs.declared.setup.Setup.{Setup}
 use Rattle.record.specs.declared.seat.Seat.{Seat}
 use Rattle.record.specs.declared.whole.Bench.{Bench}
+use Rattle.demands.specs.AirKept.{AirRight}
 use Rattle.demands.specs.Apart.{named, withoutLessons, pttOf, liveAboveTest, fixed, compared, LessonsApart}
 use Rattle.demands.proofs.Bench.Runs.{after-run}
+use Rattle.demands.proofs.Bench.AirKept.{air-at-start, air-by-call}
 use Rattle.demands.proofs.Demand3.WithoutLessons.{low, seat-low}
 use Rattle.demands.proofs.Bench.SeatAfter.{setup-kept}
-use Rattle.demands.proofs.Demand3.LessonSeats.{Held, held-step, held-fresh}
+use Rattle.demands.proofs.Demand3.LessonSeats.{Held, held-call, held-fresh}
 use Rattle.demands.proofs.Demand3.BenchAir.{above-test-low}
 use Rattle.demands.proofs.Demand3.LessonCalls.{unseen}
 use Rattle.demands.proofs.Demand3.LiveCalls.{Match, match-plain, match-opening, match-closing, match-tick, match-side}
 use Rattle.demands.proofs.Demand3.LiveReports.{match-report}
 use Rattle.demands.proofs.Demand3.LivePackets.{match-packet, no-lesson-audio}
 
--- ---- one call
+-- ---- what the benches of a run have
 
-pub matched : (b : Bench) (c : Call) → Held b → lesson (b .setup) (named c) ≡ false → Match (b .setup) c (step b c) (step (low b) c)
+pub record Reached (b : Bench) : Type 0 where
+  pub held : Held b
+  pub right : AirRight b
+
+pub reached-call : (b : Bench) (c : Call) → Reached b → Reached (keeping b c .bench)
+reached-call b c i = record { held = held-call b c (i .held); right = air-by-call b c (i .right) }
+
+pub reached-fresh : (setup : Setup) → Reached (freshBench setup)
+reached-fresh setup = record { held = held-fresh setup; right = air-at-start setup }
+
+-- ---- one call: on the bench without its lesson seats as 01 has it, where nothing of the air is kept
+
+pub matched : (b : Bench) (c : Call) → Reached b → lesson (b .setup) (named c) ≡ false → Match (b .setup) c (keeping b c) (step (low b) c)
 unfolding named
-matched b (opening n r) i live = match-opening b n r i live
+matched b (opening n r) i live = match-opening b n r (i .held) live
 matched b (closing n) i live = match-closing b n live
-matched b (packet n p) i live = match-packet b n p i live
+matched b (packet n p) i live = match-packet b n p (i .held) live
 matched b (tick ms) i live = match-tick b ms
-matched b (report n timestamp sound room) i live = match-report b n timestamp sound room i live
+matched b (report n timestamp sound room) i live = match-report b (i .right) n timestamp sound room (i .held) live
 matched b (received signals level) i live =
-    unfold step in match-plain (b .setup) (received signals level) (withSignals b signals level) _ done (unfold low in refl)
+    unfold does in match-plain (b .setup) (received signals level) (aired (withSignals b signals level)) _ done (unfold low in refl)
 matched b (transmitter healthy) i live =
-    unfold step in match-plain (b .setup) (transmitter healthy) (withHealth b healthy) _ done (unfold low in refl)
+    unfold does in match-plain (b .setup) (transmitter healthy) (aired (withHealth b healthy)) _ done (unfold low in refl)
 matched b (side standby) i live = match-side b standby
 
 -- and so its answer is the same in all that is compared
-compared-low : (b : Bench) (c : Call) → Held b → lesson (b .setup) (named c) ≡ false
-    → compared (b .setup) c (step (low b) c) ≡ compared (b .setup) c (step b c)
+compared-low : (b : Bench) (c : Call) → Reached b → lesson (b .setup) (named c) ≡ false
+    → compared (b .setup) c (step (low b) c) ≡ compared (b .setup) c (keeping b c)
 unfolding compared
 compared-low b c i live =
     ap₂ (λ (up isTest : Bool). mapped (fixed (b .setup) up isTest) (step (low b) c .answer)) above-same test-same ∙ matched b c i live .answer
   where
-    same : step (low b) c .bench ≡ low (step b c .bench)
+    same : step (low b) c .bench ≡ low (keeping b c .bench)
     same = matched b c i live .bench
 
-    above-same : liveAboveTest (step (low b) c .bench) seatNumbers ≡ liveAboveTest (step b c .bench) seatNumbers
-    above-same = ap (λ (x : Bench). liveAboveTest x seatNumbers) same ∙ above-test-low (step b c .bench)
+    above-same : liveAboveTest (step (low b) c .bench) seatNumbers ≡ liveAboveTest (keeping b c .bench) seatNumbers
+    above-same = ap (λ (x : Bench). liveAboveTest x seatNumbers) same ∙ above-test-low (keeping b c .bench)
 
-    test-same : eqb (pttOf (step (low b) c .bench) (named c)) test ≡ eqb (pttOf (step b c .bench) (named c)) test
+    test-same : eqb (pttOf (step (low b) c .bench) (named c)) test ≡ eqb (pttOf (keeping b c .bench) (named c)) test
     test-same =
         ap (λ (x : Bench). eqb (pttOf x (named c)) test) same
-        ∙ ap (λ (s : Seat). eqb (s .heard .field .ptt) test) (seat-low (step b c .bench) (named c) (same-lessons (setup-kept b c) (named c) live))
+        ∙ ap (λ (s : Seat). eqb (s .heard .field .ptt) test) (seat-low (keeping b c .bench) (named c) (same-lessons (setup-kept b c) (named c) live))
 
 -- ---- whole runs
 
 -- without its lesson seats the bench goes on as one that gets no lesson calls
-low-after : (setup : Setup) (b : Bench) (cs : List Call) → b .setup ≡ setup → Held b → low (after b cs) ≡ after (low b) (withoutLessons setup cs)
+low-after : (setup : Setup) (b : Bench) (cs : List Call) → b .setup ≡ setup → Reached b → low (after keeping b cs) ≡ after step (low b) (withoutLessons setup cs)
 unfolding after withoutLessons
 low-after setup b [] e i = refl
 low-after setup b (c ∷ cs) e i =
-    by-seat (lesson setup (named c)) refl (low-after setup (step b c .bench) cs (setup-kept b c ∙ e) (held-step b c i))
+    by-seat (lesson setup (named c)) refl (low-after setup (keeping b c .bench) cs (setup-kept b c ∙ e) (reached-call b c i))
   where
-    by-seat : (t : Bool) → lesson setup (named c) ≡ t → low (after (step b c .bench) cs) ≡ after (low (step b c .bench)) (withoutLessons setup cs)
-        → low (after b (c ∷ cs)) ≡ after (low b) (cond t (withoutLessons setup cs) (c ∷ withoutLessons setup cs))
-    by-seat true q rest = rest ∙ ap (λ (x : Bench). after x (withoutLessons setup cs)) (unseen b c (same-lessons e (named c) q))
-    by-seat false q rest = rest ∙ ap (λ (x : Bench). after x (withoutLessons setup cs)) (sym (matched b c i (same-lessons e (named c) q) .bench))
+    by-seat : (t : Bool) → lesson setup (named c) ≡ t → low (after keeping (keeping b c .bench) cs) ≡ after step (low (keeping b c .bench)) (withoutLessons setup cs)
+        → low (after keeping b (c ∷ cs)) ≡ after step (low b) (cond t (withoutLessons setup cs) (c ∷ withoutLessons setup cs))
+    by-seat true q rest = rest ∙ ap (λ (x : Bench). after step x (withoutLessons setup cs)) (unseen b c (same-lessons e (named c) q))
+    by-seat false q rest = rest ∙ ap (λ (x : Bench). after step x (withoutLessons setup cs)) (sym (matched b c i (same-lessons e (named c) q) .bench))
 
 -- ---- two runs
 
 -- the bench after a run
 abbrev pub ran : Setup → List Call → Bench
-ran setup run = after (freshBench setup) run
+ran setup run = after keeping (freshBench setup) run
 
 module _ (setup : Setup) where
   fresh-setup : freshBench setup .setup ≡ setup
   unfolding freshBench
   fresh-setup = refl
 
-  pub held : (run : List Call) → Held (ran setup run)
-  held run = after-run Held held-step (freshBench setup) run (held-fresh setup)
+  pub reached : (run : List Call) → Reached (ran setup run)
+  reached run = after-run Reached reached-call (freshBench setup) run (reached-fresh setup)
 
   its-setup : (run : List Call) → ran setup run .setup ≡ setup
   its-setup run = after-run (λ (b : Bench). b .setup ≡ setup) (λ b c e. setup-kept b c ∙ e) (freshBench setup) run fresh-setup
@@ -94,15 +109,15 @@ module _ (setup : Setup) where
   pub low-alike : (xs ys : List Call) → withoutLessons setup xs ≡ withoutLessons setup ys
       → low (ran setup xs) ≡ low (ran setup ys)
   low-alike xs ys e =
-      low-after setup (freshBench setup) xs fresh-setup (held-fresh setup)
-      ∙ ap (after (low (freshBench setup))) e
-      ∙ sym (low-after setup (freshBench setup) ys fresh-setup (held-fresh setup))
+      low-after setup (freshBench setup) xs fresh-setup (reached-fresh setup)
+      ∙ ap (after step (low (freshBench setup))) e
+      ∙ sym (low-after setup (freshBench setup) ys fresh-setup (reached-fresh setup))
 
   compared-run : (run : List Call) (c : Call) → lesson setup (named c) ≡ false
-      → compared setup c (step (low (ran setup run)) c) ≡ compared setup c (step (ran setup run) c)
+      → compared setup c (step (low (ran setup run)) c) ≡ compared setup c (keeping (ran setup run) c)
   compared-run run c live =
-      subst (λ (s : Setup). compared s c (step (low (ran setup run)) c) ≡ compared s c (step (ran setup run) c)) (its-setup run)
-      (compared-low (ran setup run) c (held run) (its-lesson run (named c) live))
+      subst (λ (s : Setup). compared s c (step (low (ran setup run)) c) ≡ compared s c (keeping (ran setup run) c)) (its-setup run)
+      (compared-low (ran setup run) c (reached run) (its-lesson run (named c) live))
 
 pub lessons-apart : LessonsApart
 lessons-apart setup xs ys e =
@@ -113,5 +128,5 @@ lessons-apart setup xs ys e =
           ∙ above-test-low (ran setup ys);
       same = λ c live.
           sym (compared-run setup xs c live) ∙ ap (λ (x : Bench). compared setup c (step x c)) (low-alike setup xs ys e) ∙ compared-run setup ys c live;
-      no-lesson-audio = λ n p hidden up. no-lesson-audio (ran setup xs) n p (held setup xs) (its-lesson setup xs n hidden) up;
+      no-lesson-audio = λ n p hidden up. no-lesson-audio (ran setup xs) n p (reached setup xs .held) (its-lesson setup xs n hidden) up;
     }

@@ -9,7 +9,7 @@ use lib.ListN.{getD}
 use borrow.Author.Tests.{ltb-true, eqb-true, not-true}
 use Rattle.base.proofs.Truths.{and-left, and-right}
 use Rattle.record.specs.Record.{seatNumbers, noSuchSeat, seatOf, lesson}
-use Rattle.air.specs.Air.{rank, takesPart, keyingOf, keyingsOf, keyings, topRank, among, benchAir}
+use Rattle.air.specs.Air.{rank, takesPart, keyingOf, keyingsOf, keyings, topRank, among, benchAir, aired}
 use Rattle.record.specs.declared.setup.Setup.{Setup}
 use Rattle.record.specs.declared.seat.Seat.{Seat}
 use Rattle.record.specs.declared.whole.Bench.{Bench}
@@ -92,6 +92,11 @@ up-among b i (n ∷ ns) h =
 
 pub up-is : (b : Bench) → Held b → liveAboveTest b seatNumbers ≡ true → Up (b .setup) (keyings b)
 up-is b i h = up-among b i seatNumbers h
+
+-- the condition does not ask the air of the record
+pub above-aired : (b : Bench) → liveAboveTest (aired b) seatNumbers ≡ liveAboveTest b seatNumbers
+unfolding liveAboveTest
+above-aired b = refl
 
 -- the condition speaks of live seats alone
 above-low : (b : Bench) (ns : List ℕ) → liveAboveTest (low b) ns ≡ liveAboveTest b ns

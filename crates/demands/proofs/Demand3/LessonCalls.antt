@@ -9,7 +9,7 @@ use Rattle.record.specs.Record.{noSuchSeat, seatOf, lesson}
 use Rattle.seats.specs.Opening.{openedBench, closedBench}
 use Rattle.hearing.specs.Hearing.{messageIn, fieldHeard, heardBench}
 use Rattle.reporting.specs.Reporting.{reportedBench}
-use Rattle.bench.specs.Step.{Call, opening, closing, packet, tick, report, received, transmitter, side, step}
+use Rattle.bench.specs.Step.{Call, opening, closing, packet, tick, report, received, transmitter, side, keeping}
 use Rattle.record.specs.declared.whole.Bench.{Bench}
 use Rattle.seats.specs.declared.opening.Request.{Request}
 use Rattle.demands.specs.Apart.{named}
@@ -46,8 +46,8 @@ module _ (b : Bench) (n : ℕ) (hidden : lesson (b .setup) n ≡ true) (real : n
       let unmoved = side-stays (seatOf (b .seats) n .heard .field) (fieldHeard (messageIn p)) (b .standby) (unfold fieldHeard in no-item) in
       simp (set-hidden, flag, order-hidden (b .setup) n, hidden, unmoved)
 
-pub unseen : (b : Bench) (c : Call) → lesson (b .setup) (named c) ≡ true → low (step b c .bench) ≡ low b
-unfolding named
+pub unseen : (b : Bench) (c : Call) → lesson (b .setup) (named c) ≡ true → low (keeping b c .bench) ≡ low b
+unfolding named low
 unseen b c hidden = after-call (λ (x : Bench). low x ≡ low b) b c refl (made-unseen c hidden)
   where
     none-named : lesson (b .setup) 0 ≡ true → ⊥

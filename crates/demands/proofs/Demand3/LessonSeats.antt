@@ -14,10 +14,10 @@ use Rattle.packet.specs.declared.message.Tx.{Tx}
 use Rattle.record.specs.Record.{seatNumbers, noSuchSeat, closedSeat, openedSeat, seatOf, lesson, freshBench, withSeats}
 use Rattle.seats.specs.Opening.{isTxRx, isCoupling, holdsCoupling, openedBench, closedBench}
 use Rattle.seats.specs.Ticking.{tickedSeat, tickedBench}
-use Rattle.air.specs.Air.{rank, among}
+use Rattle.air.specs.Air.{rank, among, aired}
 use Rattle.hearing.specs.Hearing.{pttOn, keyingBarred, messageIn, heardSeat, fieldHeard, heardBench}
 use Rattle.reporting.specs.Reporting.{reportedBench}
-use Rattle.bench.specs.Step.{Call, opening, closing, packet, tick, report, received, transmitter, side, step}
+use Rattle.bench.specs.Step.{Call, opening, closing, packet, tick, report, received, transmitter, side, keeping}
 use Rattle.record.specs.declared.setup.Setup.{Setup}
 use Rattle.record.specs.declared.seat.Seat.{Seat}
 use Rattle.record.specs.declared.whole.Bench.{Bench}
@@ -98,19 +98,23 @@ held-ticked b ms i = held-seats b _ i (λ k e. ticked k (i .meek k e))
     ticked : (k : ℕ) → Meek (getD (b .seats) k closedSeat) → Meek (getD (map (tickedSeat ms) (b .seats)) k closedSeat)
     ticked k h = unfold tickedSeat in rw (List·getD-map (tickedSeat ms) (b .seats) k closedSeat) (meek-ticked ms (getD (b .seats) k closedSeat) h)
 
+-- the air of the record has no part in it
+held-aired : (b : Bench) → Held b → Held (aired b)
+held-aired b i = record { meek = i .meek; placed = i .placed }
+
 held-made : (b : Bench) (c : Call) → Held b → NoCase (refusalsOf b c) → Held (benchAfter b c)
-held-made b (opening n r) i none = held-opened b n r (open-accepted (b .setup) n (b .seats) r none) i
+held-made b (opening n r) i none = held-aired _ (held-opened b n r (open-accepted (b .setup) n (b .seats) r none) i)
 held-made b (closing n) i none =
-    unfold closedBench in held-seats b _ i (meek-put (b .setup .lesson) (b .seats) (n - 1) closedSeat (i .meek) (λ e. meek-closed))
-held-made b (packet n p) i none = held-heard b n p (packet-accepted (b .setup) n (seatOf (b .seats) n) p none) i
-held-made b (tick ms) i none = held-ticked b ms i
+    unfold closedBench in held-aired _ (held-seats b _ i (meek-put (b .setup .lesson) (b .seats) (n - 1) closedSeat (i .meek) (λ e. meek-closed)))
+held-made b (packet n p) i none = held-aired _ (held-heard b n p (packet-accepted (b .setup) n (seatOf (b .seats) n) p none) i)
+held-made b (tick ms) i none = held-aired _ (held-ticked b ms i)
 held-made b (report n timestamp sound room) i none = unfold reportedBench in record { meek = i .meek; placed = i .placed }
 held-made b (received signals level) i none = record { meek = i .meek; placed = i .placed }
 held-made b (transmitter healthy) i none = record { meek = i .meek; placed = i .placed }
 held-made b (side standby) i none = record { meek = i .meek; placed = i .placed }
 
-pub held-step : (b : Bench) (c : Call) → Held b → Held (step b c .bench)
-held-step b c i = after-call Held b c i (held-made b c i)
+pub held-call : (b : Bench) (c : Call) → Held b → Held (keeping b c .bench)
+held-call b c i = after-call Held b c i (held-made b c i)
 
 -- ---- the start
 

@@ -13,12 +13,12 @@ use Rattle.air.specs.Air.{takesPart, keyingsOf, keyings, topRank, atRank, leade
 use Rattle.hearing.specs.Hearing.{fieldHeard, keyingBarred, idAllowed, sideBarred, messageRefusals, packetRefusals, heardSeat, takesEffect, sideAfter, heardBench, sameField, isSent, hearing, packetSaid, audioIn}
 use Rattle.air.specs.Order.{begins, toLast, orderAfter}
 use Rattle.reporting.specs.Reporting.{reportOf, reportBytes, reportRefusals, reportSaid, reportedBench}
-use Rattle.bench.specs.Step.{step, after}
+use Rattle.bench.specs.Step.{does, after}
 use Rattle.demands.specs.Apart.{named, withoutLessons, liveAboveTest, blotted}
 use Rattle.demands.specs.LessonsSeen.{LessonsSeen}
 
 pub lessons-seen : LessonsSeen
-unfolding centred distance late missing payload payloadAllowed fieldAllowed afterField allZero itemsBehind itemAllowed allAllowed hasType noTypeTwice runAllowed itemsAllowed itemsOf sqiAmong climaxAmong sideAmong kept quality readerRefusals itemsHere messageOf risingItems itemBytes wordsOf headOf encode openedSeat freshBench seatOf lesson anyCoupling openRefusals openSaid openedBench takesPart keyingsOf keyings topRank atRank leaders added onAir among smallest howMany anySends airOf benchAir fieldHeard keyingBarred idAllowed sideBarred seatRefusals messageRefusals packetRefusals heardSeat begins toLast orderAfter takesEffect sideAfter heardBench sameField isSent hearing packetSaid audioIn reportOf reportBytes reportRefusals reportSaid reportedBench step after named withoutLessons liveAboveTest blotted
+unfolding centred distance late missing payload payloadAllowed fieldAllowed afterField allZero itemsBehind itemAllowed allAllowed hasType noTypeTwice runAllowed itemsAllowed itemsOf sqiAmong climaxAmong sideAmong kept quality readerRefusals itemsHere messageOf risingItems itemBytes wordsOf headOf encode openedSeat freshBench seatOf lesson anyCoupling openRefusals openSaid openedBench takesPart keyingsOf keyings topRank atRank leaders added onAir among smallest howMany anySends airOf benchAir fieldHeard keyingBarred idAllowed sideBarred seatRefusals messageRefusals packetRefusals heardSeat begins toLast orderAfter takesEffect sideAfter heardBench sameField isSent hearing packetSaid audioIn reportOf reportBytes reportRefusals reportSaid reportedBench does after named withoutLessons liveAboveTest blotted
 lessons-seen =
     record {
       blots = refl;

@@ -9,10 +9,11 @@ use Rattle.base.proofs.Places.{map-place}
 use Rattle.packet.specs.Packet.{test}
 use Rattle.packet.specs.Refusals.{Case, NoCase, accepted, judged, mapped}
 use Rattle.record.specs.Record.{seatOf, seatNumbers, noSuchSeat, closedSeat, lesson, withSide}
+use Rattle.air.specs.Air.{aired}
 use Rattle.seats.specs.Opening.{anyCoupling, openRefusals, openSaid, openedBench, seatRefusals, closeSaid, closedBench, seatVerdict}
 use Rattle.seats.specs.Ticking.{fallsSilent, isDue, tickedSeat, tooLong, tickRefusals, tickSaid, tickSets, tickedBench}
 use Rattle.seats.specs.Radio.{sideRefusals, sideSaid}
-use Rattle.bench.specs.Step.{Call, opening, closing, tick, side, Said, done, own, ticked, Outcome, outcome, step}
+use Rattle.bench.specs.Step.{Call, opening, closing, tick, side, Said, done, own, ticked, Outcome, outcome, does, step, keeping}
 use Rattle.record.specs.declared.setup.Setup.{Setup}
 use Rattle.record.specs.declared.seat.Seat.{Seat}
 use Rattle.record.specs.declared.whole.Bench.{Bench}
@@ -59,28 +60,28 @@ coupling-live (true ∷ flags) (s ∷ seats) h = simp (h 0 refl .1, coupling-liv
 coupling-live (false ∷ flags) (s ∷ seats) h = simp (coupling-live flags seats (λ k. h (suc k)))
 
 pub match-opening : (b : Bench) (n : ℕ) (r : Request) → Held b → lesson (b .setup) n ≡ false
-    → Match (b .setup) (opening n r) (step b (opening n r)) (step (low b) (opening n r))
-unfolding step openSaid
+    → Match (b .setup) (opening n r) (keeping b (opening n r)) (step (low b) (opening n r))
+unfolding does openSaid
 match-opening b n r i live =
-    match-judged (b .setup) (opening n r) b (openedBench b n r) (openedBench (low b) n r)
+    match-judged (b .setup) (opening n r) b (aired (openedBench b n r)) (openedBench (low b) n r)
     (openRefusals (b .setup) n (b .seats) r) (openRefusals (low b .setup) n (low b .seats) r) _ _ own own
     (unfold openRefusals low in simp (live-seat (b .setup) (b .seats) n live, coupling-live (b .setup .lesson) (b .seats) (i .meek)))
-    (λ h. match-plain (b .setup) (opening n r) (openedBench b n r) _ _ (opened-low (unfold openRefusals in h .0)))
+    (λ h. match-plain (b .setup) (opening n r) (aired (openedBench b n r)) _ _ (opened-low (unfold openRefusals in h .0)))
   where
-    opened-low : noSuchSeat n ≡ false → openedBench (low b) n r ≡ low (openedBench b n r)
+    opened-low : noSuchSeat n ≡ false → openedBench (low b) n r ≡ low (aired (openedBench b n r))
     opened-low real =
         unfold openedBench low in
         simp (set-elsewhere closedSeat, set-elsewhere {A = ℕ} 0, lesson-flag (b .setup) n real, live)
 
-pub match-closing : (b : Bench) (n : ℕ) → lesson (b .setup) n ≡ false → Match (b .setup) (closing n) (step b (closing n)) (step (low b) (closing n))
-unfolding step closeSaid seatVerdict
+pub match-closing : (b : Bench) (n : ℕ) → lesson (b .setup) n ≡ false → Match (b .setup) (closing n) (keeping b (closing n)) (step (low b) (closing n))
+unfolding does closeSaid seatVerdict
 match-closing b n live =
-    match-judged (b .setup) (closing n) b (closedBench b n) (closedBench (low b) n)
+    match-judged (b .setup) (closing n) b (aired (closedBench b n)) (closedBench (low b) n)
     (seatRefusals n (seatOf (b .seats) n .opened)) (seatRefusals n (seatOf (low b .seats) n .opened)) tt tt (λ u. done) (λ u. done)
     (unfold seatRefusals low in simp (live-seat (b .setup) (b .seats) n live))
-    (λ h. match-plain (b .setup) (closing n) (closedBench b n) _ done (closed-low (unfold seatRefusals in h .0)))
+    (λ h. match-plain (b .setup) (closing n) (aired (closedBench b n)) _ done (closed-low (unfold seatRefusals in h .0)))
   where
-    closed-low : noSuchSeat n ≡ false → closedBench (low b) n ≡ low (closedBench b n)
+    closed-low : noSuchSeat n ≡ false → closedBench (low b) n ≡ low (aired (closedBench b n))
     closed-low real = unfold closedBench low in simp (set-elsewhere closedSeat, lesson-flag (b .setup) n real, live)
 
 -- ---- tick
@@ -104,16 +105,16 @@ flags-live setup seats f shut = seats-alike _ _ (λ n real. by-seat n real (less
         ∙ ap f (blank-elsewhere closedSeat (setup .lesson) seats (n - 1) (lesson-flag setup n real ∙ e))
         ∙ sym (map-place f closedSeat shut seats (n - 1)))
 
-pub match-tick : (b : Bench) (ms : ℕ) → Match (b .setup) (tick ms) (step b (tick ms)) (step (low b) (tick ms))
-unfolding step tickSaid
+pub match-tick : (b : Bench) (ms : ℕ) → Match (b .setup) (tick ms) (keeping b (tick ms)) (step (low b) (tick ms))
+unfolding does tickSaid
 match-tick b ms =
-    match-judged (b .setup) (tick ms) b (tickedBench b ms) (tickedBench (low b) ms) (tickRefusals ms) (tickRefusals ms) tt tt _ _ refl
+    match-judged (b .setup) (tick ms) b (aired (tickedBench b ms)) (tickedBench (low b) ms) (tickRefusals ms) (tickRefusals ms) tt tt _ _ refl
     (λ h. record {
       bench = ticked-low;
       answer = unfold fixed in ap accepted (sets-alike (unfold tickRefusals in h .0));
     })
   where
-    ticked-low : tickedBench (low b) ms ≡ low (tickedBench b ms)
+    ticked-low : tickedBench (low b) ms ≡ low (aired (tickedBench b ms))
     ticked-low = unfold tickedBench low tickedSeat in simp (map-blank closedSeat (tickedSeat ms) refl (b .setup .lesson) (b .seats))
 
     sets-alike : tooLong ms ≡ false
@@ -125,9 +126,9 @@ match-tick b ms =
 
 -- ---- the radio's own events
 
-pub match-side : (b : Bench) (standby : Bool) → Match (b .setup) (side standby) (step b (side standby)) (step (low b) (side standby))
-unfolding step sideSaid
+pub match-side : (b : Bench) (standby : Bool) → Match (b .setup) (side standby) (keeping b (side standby)) (step (low b) (side standby))
+unfolding does sideSaid
 match-side b standby =
-    match-judged (b .setup) (side standby) b (withSide b standby) (withSide (low b) standby)
+    match-judged (b .setup) (side standby) b (aired (withSide b standby)) (withSide (low b) standby)
     (sideRefusals (b .setup)) (sideRefusals (low b .setup)) tt tt (λ u. done) (λ u. done)
-    (unfold low in refl) (λ h. match-plain (b .setup) (side standby) (withSide b standby) _ done (unfold low in refl))
+    (unfold low in refl) (λ h. match-plain (b .setup) (side standby) (aired (withSide b standby)) _ done (unfold low in refl))

@@ -8,19 +8,19 @@ use Rattle.base.specs.Order.{missing}
 use Rattle.packet.specs.Packet.{payload, test}
 use Rattle.packet.specs.Refusals.{NoCase, accepted, mapped}
 use Rattle.record.specs.Record.{seatOf, seatNumbers, lesson, settled}
-use Rattle.air.specs.Air.{keyings}
+use Rattle.air.specs.Air.{keyings, aired}
 use Rattle.hearing.specs.Hearing.{messageIn, messageRefusals, packetRefusals, fieldHeard, heardSeat, heardBench, isSent, hearing, packetSaid, audioIn}
-use Rattle.bench.specs.Step.{packet, heard, told, step}
+use Rattle.bench.specs.Step.{packet, heard, told, does, step, keeping}
 use Rattle.record.specs.declared.seat.Seat.{Seat}
 use Rattle.record.specs.declared.whole.Bench.{Bench}
 use Rattle.demands.specs.Apart.{named, pttOf, liveAboveTest, fixed}
 use Rattle.packet.proofs.Judged.{judged-one}
 use Rattle.hearing.proofs.Accepted.{PacketAccepted, packet-accepted}
 use Rattle.hearing.proofs.AudioSent.{sound-is}
-use Rattle.demands.proofs.Demand3.WithoutLessons.{low, seat-low}
+use Rattle.demands.proofs.Demand3.WithoutLessons.{low, low-aired, seat-low}
 use Rattle.demands.proofs.Demand3.LiveAir.{Up, lesson-off-air}
 use Rattle.demands.proofs.Demand3.LessonSeats.{Held, held-heard}
-use Rattle.demands.proofs.Demand3.BenchAir.{keyings-test-at-most, up-is}
+use Rattle.demands.proofs.Demand3.BenchAir.{keyings-test-at-most, above-aired, up-is}
 use Rattle.demands.proofs.Demand3.SentAudio.{seat-heard, heard-low, sent-is, sent-same, sent-not-test}
 use Rattle.demands.proofs.Demand3.LiveCalls.{Match, match-judged}
 
@@ -71,13 +71,16 @@ module _ (b : Bench) (n : ℕ) (p : List ℕ) (i : Held b) (live : lesson (b .se
     unfolding fixed
     answer-low isTest up e u = simp (missing-low, reply-low, standby-low, sound-same isTest up (sym keys-test ∙ e) u)
 
-  pub match-packet : Match (b .setup) (packet n p) (step b (packet n p)) (step (low b) (packet n p))
-  unfolding step packetSaid named
+  pub match-packet : Match (b .setup) (packet n p) (keeping b (packet n p)) (step (low b) (packet n p))
+  unfolding does packetSaid named
   match-packet =
-      match-judged (b .setup) (packet n p) b (heardBench b n (messageIn p)) (heardBench (low b) n (messageIn p))
+      match-judged (b .setup) (packet n p) b (aired (heardBench b n (messageIn p))) (heardBench (low b) n (messageIn p))
       (packetRefusals (b .setup) n (seatOf (b .seats) n) p) (packetRefusals (low b .setup) n (seatOf (low b .seats) n) p) (hearing b n p) (hearing (low b) n p)
       (told (packetSaid b n p) p) (told (packetSaid (low b) n p) p) refusals-low
-      (λ h. record { bench = heard-low b n (messageIn p) live (passed h .is-seat); answer = ap accepted (answer-low h _ _ refl refl) })
+      (λ h. record {
+        bench = heard-low b n (messageIn p) live (passed h .is-seat) ∙ sym (low-aired (heardBench b n (messageIn p)));
+        answer = ap accepted (answer-low h _ _ refl (sym (above-aired (heardBench b n (messageIn p)))));
+      })
 
 -- ---- a lesson seat's packet: "no lesson audio is sent"
 
@@ -91,12 +94,12 @@ module _ (b : Bench) (n : ℕ) (p : List ℕ) (i : Held b) (hidden : lesson (b .
       ∙ lesson-off-air (heardBench b n (messageIn p) .setup) (heardBench b n (messageIn p) .seats) (keyings (heardBench b n (messageIn p)))
       (keyings-test-at-most (heardBench b n (messageIn p)) next-held) (up-is (heardBench b n (messageIn p)) next-held up) n (unfold heardBench in hidden)
 
-  pub no-lesson-audio : liveAboveTest (step b (packet n p) .bench) seatNumbers ≡ true → (missing : ℕ) (reply standby : Bool) (sound : List ℕ)
-      → step b (packet n p) .answer ≡ accepted (heard missing reply standby sound) → sound ≡ []
-  unfolding step packetSaid
+  pub no-lesson-audio : liveAboveTest (keeping b (packet n p) .bench) seatNumbers ≡ true → (missing : ℕ) (reply standby : Bool) (sound : List ℕ)
+      → keeping b (packet n p) .answer ≡ accepted (heard missing reply standby sound) → sound ≡ []
+  unfolding does packetSaid
   no-lesson-audio up m r s sound e =
       judged-one
-      (λ a. liveAboveTest (settled a b (heardBench b n (messageIn p))) seatNumbers ≡ true → mapped (told (packetSaid b n p) p) a ≡ accepted (heard m r s sound) → sound ≡ [])
+      (λ a. liveAboveTest (settled a b (aired (heardBench b n (messageIn p)))) seatNumbers ≡ true → mapped (told (packetSaid b n p) p) a ≡ accepted (heard m r s sound) → sound ≡ [])
       (packetRefusals (b .setup) n (seatOf (b .seats) n) p) (hearing b n p) (λ k c u q. cc)
       (λ h u q. let audio : audioIn (packetSaid b n p) p ≡ sound = cc in
-      sym audio ∙ sound-is b n p h ∙ ap (λ (t : Bool). cond t (payload p) []) (lesson-unsent h u)) up e
+      sym audio ∙ sound-is b n p h ∙ ap (λ (t : Bool). cond t (payload p) []) (lesson-unsent h (sym (above-aired (heardBench b n (messageIn p))) ∙ u))) up e

@@ -1,4 +1,4 @@
--- A report to a live seat, from a bench and from that bench without its lesson seats.
+-- A report to a live seat, from a bench whose air is right and from that bench without its lesson seats, whose air is worked out.
 use Prim.Native.Nat.{ℕ, _+_, _*_, _-_, _≤_}
 use mathlib.Core.Path.{_≡_, refl, sym, ap, ap₂, _∙_}
 use mathlib.Core.Bool.{Bool, true, false, cond, _&&_}
@@ -16,11 +16,13 @@ use Rattle.packet.specs.declared.message.Items.{Items}
 use Rattle.packet.specs.declared.message.Message.{Message}
 use Rattle.packet.specs.declared.message.Rx.{Rx}
 use Rattle.record.specs.Record.{seatNumbers, noSuchSeat, seatOf, lesson}
-use Rattle.air.specs.Air.{benchAir}
+use Rattle.air.specs.Air.{benchAir, aired}
+use Rattle.air.proofs.Kept.{air-unread}
 use Rattle.reporting.specs.Reporting.{squTold, sctTold, sqiTold, sideTold, reportOf, reportBytes, reportRefusals, reportSaid, reportedBench}
-use Rattle.bench.specs.Step.{report, written, step}
+use Rattle.bench.specs.Step.{report, written, does, step, keeping}
 use Rattle.record.specs.declared.seat.Seat.{Seat}
 use Rattle.record.specs.declared.whole.Bench.{Bench}
+use Rattle.demands.specs.AirKept.{AirRight}
 use Rattle.demands.specs.Apart.{liveAboveTest, blotted, fixed}
 use Rattle.demands.proofs.Demand3.Blanking.{set-elsewhere}
 use Rattle.demands.proofs.Demand3.Blotted.{calm, blotted-calm}
@@ -28,7 +30,7 @@ use Rattle.writer.proofs.Written.{encoded-length}
 use Rattle.record.proofs.Seats.{lesson-flag}
 use Rattle.air.proofs.Bounds.{ptt-most}
 use Rattle.reporting.proofs.Accepted.{report-accepted}
-use Rattle.reporting.proofs.ReportLaws.{id-told-most}
+use Rattle.reporting.proofs.Told.{id-told-most}
 use Rattle.demands.proofs.Demand3.WithoutLessons.{low, seat-low, sequence-low}
 use Rattle.demands.proofs.Demand3.LessonSeats.{Held}
 use Rattle.demands.proofs.Demand3.BenchAir.{up-is, air-low}
@@ -36,13 +38,13 @@ use Rattle.demands.proofs.Demand3.LiveCalls.{Match, match-judged}
 
 -- ---- the told type and id fit their bits
 
-type-told : (b : Bench) (n timestamp : ℕ) → reportOf b n timestamp .ptt ≤ 5
+type-told : (b : Bench) → AirRight b → (n timestamp : ℕ) → reportOf b n timestamp .ptt ≤ 5
 unfolding reportOf
-type-told b n timestamp = ptt-most b
+type-told b right n timestamp = rw right (ptt-most b)
 
-id-told : (b : Bench) (n timestamp : ℕ) → noSuchSeat n ≡ false → reportOf b n timestamp .id ≤ 63
+id-told : (b : Bench) → AirRight b → (n timestamp : ℕ) → noSuchSeat n ≡ false → reportOf b n timestamp .id ≤ 63
 unfolding reportOf
-id-told b n timestamp real = omega (arith, id-told-most b n real)
+id-told b right n timestamp real = rw right (omega (arith, id-told-most b n real))
 
 -- ---- the length of a report: by signals, kind of radio and audio alone
 
@@ -89,29 +91,34 @@ calm-report : (b : Bench) (n timestamp : ℕ) → calm (fromRx (reportOf b n tim
 unfolding calm reportOf calmReport
 calm-report b n timestamp = refl
 
-module _ (b : Bench) (n timestamp : ℕ) (live : lesson (b .setup) n ≡ false) (real : noSuchSeat n ≡ false) where
+-- what the bench without its lesson seats shows to a report
+abbrev alone : Bench → Bench
+alone b = aired (low b)
+
+module _ (b : Bench) (right : AirRight b) (n timestamp : ℕ) (live : lesson (b .setup) n ≡ false) (real : noSuchSeat n ≡ false) where
   -- from the same air, the same report
-  report-low : benchAir (low b) ≡ benchAir b → reportOf (low b) n timestamp ≡ reportOf b n timestamp
+  report-low : benchAir (low b) ≡ benchAir b → reportOf (alone b) n timestamp ≡ reportOf b n timestamp
   unfolding reportOf
-  report-low e = simp (e, sequence-low b n live real, seat-low b n live) (unfold low in refl)
+  report-low e = simp (e, right, sequence-low b n live real, seat-low b n live) (unfold low in refl)
 
   -- from any air, the same but for the three
-  report-calm : calm (fromRx (reportOf (low b) n timestamp)) ≡ calm (fromRx (reportOf b n timestamp))
+  report-calm : calm (fromRx (reportOf (alone b) n timestamp)) ≡ calm (fromRx (reportOf b n timestamp))
   unfolding low calmReport
-  report-calm = calm-report (low b) n timestamp ∙ ap₂ (calmReport b timestamp) (sequence-low b n live real) (seat-low b n live) ∙ sym (calm-report b n timestamp)
+  report-calm = calm-report (alone b) n timestamp ∙ ap₂ (calmReport b timestamp) (sequence-low b n live real) (seat-low b n live) ∙ sym (calm-report b n timestamp)
 
   module _ (sound : List ℕ) where
     -- "the same bytes"
-    bytes-low : benchAir (low b) ≡ benchAir b → reportBytes (low b) n timestamp sound ≡ reportBytes b n timestamp sound
+    bytes-low : benchAir (low b) ≡ benchAir b → reportBytes (alone b) n timestamp sound ≡ reportBytes b n timestamp sound
     unfolding reportBytes low
     bytes-low e = ap (λ (r : Rx). encode (b .setup .ext) (fromRx r) sound) (report-low e)
 
-    blotted-low : blotted (reportBytes (low b) n timestamp sound) ≡ blotted (reportBytes b n timestamp sound)
+    blotted-low : blotted (reportBytes (alone b) n timestamp sound) ≡ blotted (reportBytes b n timestamp sound)
     unfolding reportBytes low
     blotted-low =
-        blotted-calm (fromRx (reportOf (low b) n timestamp)) (type-told (low b) n timestamp) (id-told (low b) n timestamp real) (b .setup .ext) sound
+        let shown = sym (air-unread (low b)) in
+        blotted-calm (fromRx (reportOf (alone b) n timestamp)) (type-told (alone b) shown n timestamp) (id-told (alone b) shown n timestamp real) (b .setup .ext) sound
         ∙ ap (λ (m : Message). encode (b .setup .ext) m sound) report-calm
-        ∙ sym (blotted-calm (fromRx (reportOf b n timestamp)) (type-told b n timestamp) (id-told b n timestamp real) (b .setup .ext) sound)
+        ∙ sym (blotted-calm (fromRx (reportOf b n timestamp)) (type-told b right n timestamp) (id-told b right n timestamp real) (b .setup .ext) sound)
 
 -- ---- the call
 
@@ -120,12 +127,12 @@ pub above-reported : (b : Bench) (n : ℕ) → liveAboveTest (reportedBench b n)
 unfolding reportedBench liveAboveTest
 above-reported b n = refl
 
-module _ (b : Bench) (n timestamp : ℕ) (sound : List ℕ) (room : ℕ) (i : Held b) (live : lesson (b .setup) n ≡ false) where
-  length-low : length (reportBytes (low b) n timestamp sound) ≡ length (reportBytes b n timestamp sound)
+module _ (b : Bench) (right : AirRight b) (n timestamp : ℕ) (sound : List ℕ) (room : ℕ) (i : Held b) (live : lesson (b .setup) n ≡ false) where
+  length-low : length (reportBytes (alone b) n timestamp sound) ≡ length (reportBytes b n timestamp sound)
   unfolding low
-  length-low = report-long (low b) n timestamp sound ∙ sym (report-long b n timestamp sound)
+  length-low = report-long (alone b) n timestamp sound ∙ sym (report-long b n timestamp sound)
 
-  refusals-low : reportRefusals (low b) n timestamp sound room ≡ reportRefusals b n timestamp sound room
+  refusals-low : reportRefusals (alone b) n timestamp sound room ≡ reportRefusals b n timestamp sound room
   unfolding reportRefusals
   refusals-low = simp (length-low, seat-low b n live) (unfold low in refl)
 
@@ -134,19 +141,19 @@ module _ (b : Bench) (n timestamp : ℕ) (sound : List ℕ) (room : ℕ) (i : He
   reported-low real = simp (sequence-low b n live real) (unfold low in simp (set-elsewhere {A = ℕ} 0, lesson-flag (b .setup) n real, live))
 
   told-low : noSuchSeat n ≡ false → (t : Bool) → liveAboveTest b seatNumbers ≡ t
-      → cond t (reportBytes (low b) n timestamp sound) (blotted (reportBytes (low b) n timestamp sound))
+      → cond t (reportBytes (alone b) n timestamp sound) (blotted (reportBytes (alone b) n timestamp sound))
       ≡ cond t (reportBytes b n timestamp sound) (blotted (reportBytes b n timestamp sound))
-  told-low real true up = bytes-low b n timestamp live real sound (air-low b i (up-is b i up))
-  told-low real false e = blotted-low b n timestamp live real sound
+  told-low real true up = bytes-low b right n timestamp live real sound (air-low b i (up-is b i up))
+  told-low real false e = blotted-low b right n timestamp live real sound
 
   real-seat : NoCase (reportRefusals b n timestamp sound room) → noSuchSeat n ≡ false
   real-seat h = report-accepted b n timestamp sound room h .is-seat
 
-  pub match-report : Match (b .setup) (report n timestamp sound room) (step b (report n timestamp sound room)) (step (low b) (report n timestamp sound room))
-  unfolding step reportSaid fixed
+  pub match-report : Match (b .setup) (report n timestamp sound room) (keeping b (report n timestamp sound room)) (step (low b) (report n timestamp sound room))
+  unfolding does reportSaid fixed
   match-report =
       match-judged (b .setup) (report n timestamp sound room) b (reportedBench b n) (reportedBench (low b) n)
-      (reportRefusals b n timestamp sound room) (reportRefusals (low b) n timestamp sound room) _ _ _ _ refusals-low
+      (reportRefusals b n timestamp sound room) (reportRefusals (alone b) n timestamp sound room) _ _ _ _ refusals-low
       (λ h. record {
         bench = reported-low (real-seat h);
         answer = ap (λ (r : List ℕ). accepted (written r)) (told-low (real-seat h) _ (sym (above-reported b n)));

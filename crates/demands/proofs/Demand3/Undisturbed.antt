@@ -10,7 +10,7 @@ use Rattle.air.specs.Air.{benchAir}
 use Rattle.record.specs.Record.{seatNumbers, lesson, freshBench, settled}
 use Rattle.hearing.specs.Hearing.{packetSaid}
 use Rattle.reporting.specs.Reporting.{reportBytes, reportRefusals, reportSaid, reportedBench}
-use Rattle.bench.specs.Step.{Call, packet, report, Said, done, own, heard, ticked, written, told, step, after}
+use Rattle.bench.specs.Step.{Call, packet, report, Said, done, own, heard, ticked, written, told, does, keeping, after}
 use Rattle.record.specs.declared.setup.Setup.{Setup}
 use Rattle.record.specs.declared.whole.Bench.{Bench}
 use Rattle.demands.specs.Apart.{named, withoutLessons, pttOf, liveAboveTest, fixed, compared, Apart}
@@ -18,7 +18,7 @@ use Rattle.demands.specs.Undisturbed.{audioSent, Undisturbed}
 use Rattle.packet.proofs.Judged.{judged-one}
 use Rattle.demands.proofs.Demand3.WithoutLessons.{low}
 use Rattle.demands.proofs.Demand3.BenchAir.{up-is, air-low}
-use Rattle.demands.proofs.Demand3.Apart.{ran, held, low-alike, lessons-apart}
+use Rattle.demands.proofs.Demand3.Apart.{ran, reached, low-alike, lessons-apart}
 use Rattle.demands.proofs.Demand3.LiveReports.{above-reported}
 
 -- ---- runs
@@ -45,10 +45,10 @@ out-of-both setup (c ∷ xs) ys = by-seat (lesson setup (named c)) (out-of-both 
     by-seat true rest = rest
     by-seat false rest = ap (λ (r : List Call). c ∷ r) rest
 
-after-one-more : (b : Bench) (run : List Call) (c : Call) → after b (run ++ (c ∷ [])) ≡ step (after b run) c .bench
+after-one-more : (b : Bench) (run : List Call) (c : Call) → after keeping b (run ++ (c ∷ [])) ≡ keeping (after keeping b run) c .bench
 unfolding after
 after-one-more b [] c = refl
-after-one-more b (d ∷ run) c = after-one-more (step b d .bench) run c
+after-one-more b (d ∷ run) c = after-one-more (keeping b d .bench) run c
 
 -- ---- while the condition is met answers are compared whole
 
@@ -57,25 +57,25 @@ whole : {A : Type 0} (setup : Setup) (isTest : Bool) (tell : A → Said) → ((x
 whole setup isTest tell h (accepted x) = ap accepted (h x)
 whole setup isTest tell h (refused n c) = refl
 
-packet-whole : (setup : Setup) (b : Bench) (n : ℕ) (p : List ℕ) → liveAboveTest (step b (packet n p) .bench) seatNumbers ≡ true
-    → compared setup (packet n p) (step b (packet n p)) ≡ step b (packet n p) .answer
-unfolding compared step packetSaid named
-packet-whole setup b n p up = rw up (by-keying (eqb (pttOf (step b (packet n p) .bench) n) test))
+packet-whole : (setup : Setup) (b : Bench) (n : ℕ) (p : List ℕ) → liveAboveTest (keeping b (packet n p) .bench) seatNumbers ≡ true
+    → compared setup (packet n p) (keeping b (packet n p)) ≡ keeping b (packet n p) .answer
+unfolding compared does packetSaid named
+packet-whole setup b n p up = rw up (by-keying (eqb (pttOf (keeping b (packet n p) .bench) n) test))
   where
-    by-keying : (isTest : Bool) → mapped (fixed setup true isTest) (step b (packet n p) .answer) ≡ step b (packet n p) .answer
+    by-keying : (isTest : Bool) → mapped (fixed setup true isTest) (keeping b (packet n p) .answer) ≡ keeping b (packet n p) .answer
     by-keying true = whole setup true (told (packetSaid b n p) p) (λ x. unfold fixed in refl) (packetSaid b n p)
     by-keying false = whole setup false (told (packetSaid b n p) p) (λ x. unfold fixed in refl) (packetSaid b n p)
 
 above-after-report : (b : Bench) (n timestamp : ℕ) (sound : List ℕ) (room : ℕ)
-    → liveAboveTest (step b (report n timestamp sound room) .bench) seatNumbers ≡ liveAboveTest b seatNumbers
-unfolding step reportSaid
+    → liveAboveTest (keeping b (report n timestamp sound room) .bench) seatNumbers ≡ liveAboveTest b seatNumbers
+unfolding does reportSaid
 above-after-report b n timestamp sound room =
     judged-one (λ a. liveAboveTest (settled a b (reportedBench b n)) seatNumbers ≡ liveAboveTest b seatNumbers) (reportRefusals b n timestamp sound room) _
     (λ k c. refl) (λ h. above-reported b n)
 
 report-whole : (setup : Setup) (b : Bench) (n timestamp : ℕ) (sound : List ℕ) (room : ℕ) → liveAboveTest b seatNumbers ≡ true
-    → compared setup (report n timestamp sound room) (step b (report n timestamp sound room)) ≡ step b (report n timestamp sound room) .answer
-unfolding compared step reportSaid fixed
+    → compared setup (report n timestamp sound room) (keeping b (report n timestamp sound room)) ≡ keeping b (report n timestamp sound room) .answer
+unfolding compared does reportSaid fixed
 report-whole setup b n timestamp sound room up =
     rw (above-after-report b n timestamp sound room ∙ up)
     (whole setup _ (λ k. written (reportBytes b n timestamp sound)) (λ x. refl) (reportSaid b n timestamp sound room))
@@ -95,12 +95,12 @@ none-sent (refused n cause) h = refl
 -- ---- the corollary
 
 module _ (setup : Setup) (run : List Call) where
-  apart : Apart step setup (ran setup run) (ran setup (withoutLessons setup run))
+  apart : Apart keeping setup (ran setup run) (ran setup (withoutLessons setup run))
   apart = lessons-apart setup run (withoutLessons setup run) (sym (out-twice setup run))
 
   -- the condition after one more call, whoever makes it
-  pub together-then : (c : Call) → liveAboveTest (step (ran setup run) c .bench) seatNumbers
-      ≡ liveAboveTest (step (ran setup (withoutLessons setup run)) c .bench) seatNumbers
+  pub together-then : (c : Call) → liveAboveTest (keeping (ran setup run) c .bench) seatNumbers
+      ≡ liveAboveTest (keeping (ran setup (withoutLessons setup run)) c .bench) seatNumbers
   together-then c =
       ap (λ (x : Bench). liveAboveTest x seatNumbers) (sym (after-one-more (freshBench setup) run c))
       ∙ lessons-apart setup (run ++ (c ∷ [])) (withoutLessons setup run ++ (c ∷ [])) still-alike .together
@@ -127,14 +127,14 @@ undisturbed setup run =
     alone = withoutLessons setup run
 
     air-alone : (cs : List Call) → liveAboveTest (ran setup cs) seatNumbers ≡ true → benchAir (low (ran setup cs)) ≡ benchAir (ran setup cs)
-    air-alone cs up = air-low (ran setup cs) (held setup cs) (up-is (ran setup cs) (held setup cs) up)
+    air-alone cs up = air-low (ran setup cs) (reached setup cs .held) (up-is (ran setup cs) (reached setup cs .held) up)
 
-    up-alone : (n : ℕ) (p : List ℕ) → liveAboveTest (step (ran setup run) (packet n p) .bench) seatNumbers ≡ true
-        → liveAboveTest (step (ran setup (withoutLessons setup run)) (packet n p) .bench) seatNumbers ≡ true
+    up-alone : (n : ℕ) (p : List ℕ) → liveAboveTest (keeping (ran setup run) (packet n p) .bench) seatNumbers ≡ true
+        → liveAboveTest (keeping (ran setup (withoutLessons setup run)) (packet n p) .bench) seatNumbers ≡ true
     up-alone n p up = sym (together-then setup run (packet n p)) ∙ up
 
-    by-seat : (n : ℕ) (p : List ℕ) → liveAboveTest (step (ran setup run) (packet n p) .bench) seatNumbers ≡ true → (t : Bool) → lesson setup n ≡ t
-        → audioSent (step (ran setup run) (packet n p) .answer) ≡ audioSent (step (ran setup (withoutLessons setup run)) (packet n p) .answer)
+    by-seat : (n : ℕ) (p : List ℕ) → liveAboveTest (keeping (ran setup run) (packet n p) .bench) seatNumbers ≡ true → (t : Bool) → lesson setup n ≡ t
+        → audioSent (keeping (ran setup run) (packet n p) .answer) ≡ audioSent (keeping (ran setup (withoutLessons setup run)) (packet n p) .answer)
     by-seat n p up true hidden =
         none-sent _ (apart setup run .no-lesson-audio n p hidden up)
         ∙ sym (none-sent _ (lessons-apart setup (withoutLessons setup run) run (out-twice setup run) .no-lesson-audio n p hidden (up-alone n p up)))

@@ -1,4 +1,5 @@
--- The bench without its lesson seats: each closed, its report sequence 0, and out of the order of keyings.
+-- The bench without its lesson seats: each closed, its report sequence 0, and out of the order of keyings. Nor does it keep an air: that
+-- of the bench may be a lesson seat's Test. So it is a bench of `step`.
 use Prim.Native.Nat.{ℕ, _-_}
 use mathlib.Core.Path.{_≡_, refl, sym, ap, _∙_}
 use mathlib.Core.Bool.{Bool, true, false, cond, false≢true}
@@ -6,7 +7,8 @@ use mathlib.Core.List.{List, [], _∷_, _++_, append-nil}
 use lib.Dec.{eqb}
 use lib.ListN.{getD}
 use borrow.Author.Tests.{eqb-true}
-use Rattle.record.specs.Record.{noSuchSeat, closedSeat, seatOf, lesson, withSeats, withSequences, withOrder}
+use Rattle.record.specs.Record.{noSuchSeat, closedSeat, seatOf, lesson, nobody, withSeats, withSequences, withOrder, withAir}
+use Rattle.air.specs.Air.{aired}
 use Rattle.air.specs.Order.{toLast, begins, orderAfter}
 use Rattle.record.specs.declared.setup.Setup.{Setup}
 use Rattle.record.specs.declared.seat.Field.{Field}
@@ -24,8 +26,12 @@ liveSeats setup seats = blank closedSeat (setup .lesson) seats
 
 unfoldable pub low : Bench → Bench
 low b =
-    withOrder (withSequences (withSeats b (liveSeats (b .setup) (b .seats))) (blank 0 (b .setup .lesson) (b .sequences)))
-    (liveOrder (b .setup) (b .order))
+    withAir (withOrder (withSequences (withSeats b (liveSeats (b .setup) (b .seats))) (blank 0 (b .setup .lesson) (b .sequences)))
+    (liveOrder (b .setup) (b .order))) nobody
+
+pub low-aired : (b : Bench) → low (aired b) ≡ low b
+unfolding low
+low-aired b = refl
 
 -- ---- seats
 

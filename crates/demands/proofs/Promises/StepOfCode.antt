@@ -9,7 +9,7 @@ use Rattle.packet.specs.Refusals.{Answer, accepted, mapped}
 use Rattle.writer.specs.Writing.{filled}
 use Rattle.hearing.specs.Hearing.{audioIn}
 use Rattle.reporting.specs.Reporting.{reportRefusals, reportSaid, reportBytes, reportBuffer}
-use Rattle.bench.specs.Step.{own, done, told, written, step}
+use Rattle.bench.specs.Step.{own, done, told, written, does}
 use Rattle.hearing.specs.declared.hearing.Hearing.{Hearing}
 use Rattle.record.specs.declared.whole.Bench.{Bench}
 use Rattle.demands.specs.StepOfCode.{did, wasDone, tickedSets, heardWith, inFront, StepOfCode}
@@ -33,7 +33,7 @@ module _ (b : Bench) (n timestamp : ℕ) (sound buffer : List ℕ) where
       (λ none. ap (λ (front : List ℕ). accepted (written front)) (take-at bytes (drop (length bytes) buffer) (length bytes) refl))
 
 pub step-of-code : StepOfCode
-unfolding step
+unfolding does
 step-of-code = record {
   reads-tx = λ k a r e p. p;
   reads-rx = λ k a r e p. p;

@@ -92,6 +92,7 @@ pub tight-writer : TightWriter
 tight-writer = record {
   write-tx = λ k a r s d e p q. (told written-tells (p .0) (q .0), meet (p .1) (q .1));
   write-rx = λ k a r s d e p q. (told written-tells (p .0) (q .0), meet (p .1) (q .1));
+  put-rx = λ k a r s d e p q. (told written-tells (p .0) (q .0), meet (p .1) (q .1));
 }
 
 pub tight-record : TightRecord
@@ -122,7 +123,7 @@ tight-seats = record {
 pub tight-air : TightAir
 tight-air = record {
   keyed = λ k a r s d e. meet;
-  bench-air = λ k a r s d e. meet;
+  aired = λ k a r s d e. meet;
   moved-last = λ k a r s d e. meet;
   order-after = λ k a r s d e. meet;
 }

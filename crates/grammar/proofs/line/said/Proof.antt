@@ -42,6 +42,9 @@ write-requires c κs = search needs
 quality-requires : tie.Need-quality-requires
 quality-requires c κs = search needs
 
+air-requires : tie.Need-air-requires
+air-requires c κs = search needs
+
 help-requires : tie.Need-help-requires
 help-requires c κs = search needs
 
@@ -95,10 +98,14 @@ returns-12 c = simp (c .before .match .keys12) (c .quality .ensures)
 
 returns-13 : tie.Need-returns-13
 unfolding saidWith
-returns-13 c = simp (c .before .match .keys13) (c .help .ensures)
+returns-13 c = simp (c .before .match .keys13) (c .air .ensures)
 
 returns-14 : tie.Need-returns-14
-returns-14 c = ap orWrong (no-call _ _ _ (c .match .rest))
+unfolding saidWith
+returns-14 c = simp (c .before .match .keys14) (c .help .ensures)
+
+returns-15 : tie.Need-returns-15
+returns-15 c = ap orWrong (no-call _ _ _ (c .match .rest))
 
 pub said-spec : {M : Type 1} → statement M
 said-spec =
@@ -116,6 +123,7 @@ said-spec =
     read-requires
     write-requires
     quality-requires
+    air-requires
     help-requires
     returns
     returns-2
@@ -130,4 +138,5 @@ said-spec =
     returns-11
     returns-12
     returns-13
-    returns-14)
+    returns-14
+    returns-15)

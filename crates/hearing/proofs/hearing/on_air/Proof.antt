@@ -1,10 +1,8 @@
+use mathlib.Core.Path.{refl}
 use Rattle.record.proofs.RecordLaws.{recordCases}
 use borrow.Author.Needs.{needs}
 use Rattle.hearing.proofs.hearing.on_air.Statement.{statement}
 use Rattle.hearing.proofs.hearing.on_air.Tie as tie
-
-bench-air-requires : tie.Need-bench-air-requires
-bench-air-requires c κs = search needs
 
 sub-result : tie.Need-sub-result
 sub-result c = search recordCases
@@ -16,8 +14,7 @@ element-copy-out-result : tie.Need-element-copy-out-result
 element-copy-out-result c = search recordCases
 
 returns : tie.Need-returns
-returns c = simp (c .before .bench-air .ensures)
+returns c = refl
 
 pub on-air-spec : {M : Type 1} → statement M
-on-air-spec =
-    tie.close (tie.spec bench-air-requires sub-result cast-result element-copy-out-result returns)
+on-air-spec = tie.close (tie.spec sub-result cast-result element-copy-out-result returns)

@@ -1,5 +1,6 @@
 use mathlib.Core.Path.{refl, ap, sym, _∙_}
 use Rattle.packet.specs.Refusals.{accepted}
+use Rattle.air.specs.Air.{aired}
 use Rattle.hearing.proofs.PacketSteps.{packet-refused, packet-said, says, taken, seen, is-whole, hearing-told}
 use borrow.Author.Needs.{needs}
 use Rattle.hearing.proofs.hearing.packet.Statement.{statement}
@@ -29,9 +30,12 @@ heard-bench-requires c κs =
     let a = m .before .before .before .before .before .before .before .args in
     (taken (a .t1) (a .n) (a .p .now) _ _ (m .before .before .before .before .place .ensures .0) refl _ (m .before .before .admitted .ensures) (m .told2 .given .1) .is-seat, seen (a .t1) (a .n) (a .p .now) _ _ (m .before .before .before .before .place .ensures .0) refl _ (m .before .before .admitted .ensures) (m .told2 .given .1))
 
+aired-requires : tie.Need-aired-requires
+aired-requires c κs = search needs
+
 on-air-requires : tie.Need-on-air-requires
 on-air-requires c κs =
-    let m = c .before .before in
+    let m = c .before .before .before in
     let a = m .before .before .before .before .before .before .before .args in
     taken (a .t1) (a .n) (a .p .now) _ _ (m .before .before .before .before .place .ensures .0) refl _ (m .before .before .admitted .ensures) (m .told2 .given .1) .is-seat
 
@@ -46,13 +50,13 @@ missing-requires c κs = search needs
 
 sent-at-requires : tie.Need-sent-at-requires
 sent-at-requires c κs =
-    let m = c .before .before .before .before .before .before .before .before in
+    let m = c .before .before .before .before .before .before .before .before .before in
     let a = m .before .before .before .before .before .before .before .args in
     is-whole (a .t1) (a .n) (a .p .now) _ _ (m .before .before .before .before .place .ensures .0) refl _ (m .before .before .admitted .ensures) (m .told2 .given .1)
 
 sent-length-requires : tie.Need-sent-length-requires
 sent-length-requires c κs =
-    let m = c .before .before .before .before .before .before .before .before .before in
+    let m = c .before .before .before .before .before .before .before .before .before .before in
     let a = m .before .before .before .before .before .before .before .args in
     is-whole (a .t1) (a .n) (a .p .now) _ _ (m .before .before .before .before .place .ensures .0) refl _ (m .before .before .admitted .ensures) (m .told2 .given .1)
 
@@ -65,13 +69,13 @@ returns c =
 
 returns-2 : tie.Need-returns-2
 returns-2 c =
-    let m = c .before .before .before .before .before .before .before .before .before .before in
+    let m = c .before .before .before .before .before .before .before .before .before .before .before in
     let a = m .before .before .before .before .before .before .before .args in
     let said = packet-said (a .t1) (a .n) (a .p .now) _ _ (m .before .before .before .before .place .ensures .0) refl _ (m .before .before .admitted .ensures) (m .told2 .given .1) in
     let is = says (a .t1) (a .n) (a .p .now) _ _ (m .before .before .before .before .place .ensures .0) refl _ (m .before .before .admitted .ensures) (m .told2 .given .1) in
-    let left = c .before .before .before .before .before .before .before .before .heard-bench .ensures in
+    let left = c .before .before .before .before .before .before .before .before .aired .ensures ∙ ap aired (c .before .before .before .before .before .before .before .before .before .heard-bench .ensures) in
     let told = hearing-told (a .t1) (a .n) (a .p .now) (seen (a .t1) (a .n) (a .p .now) _ _ (m .before .before .before .before .place .ensures .0) refl _ (m .before .before .admitted .ensures) (m .told2 .given .1)) is left (c .before .before .before .before .before .before .before .on-air .ensures) (c .before .before .before .before .field-heard .ensures) (c .before .before .before .same-field .ensures) (c .before .before .missing .ensures) (c .before .sent-at .ensures) (c .sent-length .ensures) in
-    (ap accepted told ∙ sym said, left ∙ simp (said, is))
+    (ap accepted told ∙ sym said, simp (left, said, is))
 
 pub packet-spec : {M : Type 1} → statement M
 packet-spec =
@@ -84,6 +88,7 @@ packet-spec =
     enum-known-told
     enum-known-told-2
     heard-bench-requires
+    aired-requires
     on-air-requires
     field-heard-requires
     same-field-requires

@@ -6,7 +6,7 @@ use Rattle.record.specs.Record.{settled}
 use Rattle.record.specs.declared.seat.Seat.{Seat}
 use Rattle.reporting.specs.Reporting.{reportedBench}
 use Rattle.record.proofs.Seats.{placed}
-use Rattle.reporting.proofs.ReportLaws.{report-passed, report-refused, report-written, buffer-kept, buffer-written}
+use Rattle.reporting.proofs.ReportLaws.{seat-passed, report-refused, report-written, buffer-kept, buffer-written}
 use borrow.Author.Needs.{needs}
 use Rattle.reporting.proofs.reporting.report.Statement.{statement}
 use Rattle.reporting.proofs.reporting.report.Tie as tie
@@ -33,7 +33,7 @@ written-requires : tie.Need-written-requires
 written-requires c κs =
     let v = c .before .before .before in
     let a = v .before .before .before .before .args in
-    report-passed (a .n) _ (a .t1 .signals) (length (a .audio .now)) (c .before .enum-told .given .1) (v .report-verdict .ensures) .0
+    seat-passed (a .n) _ (a .t1 .signals) (length (a .audio .now)) (c .before .enum-told .given .1) (v .report-verdict .ensures)
 
 returns : tie.Need-returns
 returns c =

@@ -20,14 +20,11 @@ mul-s c = search needs
 element-copy-out-s : tie.Need-element-copy-out-s
 element-copy-out-s c = search recordCases
 
-bench-air-requires : tie.Need-bench-air-requires
-bench-air-requires c κs = search needs
-
 mul-t12 : tie.Need-mul-t12
 mul-t12 c = search needs
 
-element-copy-out-t19 : tie.Need-element-copy-out-t19
-element-copy-out-t19 c = search recordCases
+element-copy-out-t18 : tie.Need-element-copy-out-t18
+element-copy-out-t18 c = search recordCases
 
 id-told-requires : tie.Need-id-told-requires
 id-told-requires c κs = search needs
@@ -47,7 +44,6 @@ returns c =
       c .side-told .ensures,
       c .before .sqi-told .ensures,
       c .before .before .before .id-told .ensures,
-      c .before .before .before .before .before .bench-air .ensures,
       seat-of-place (c .before .before .before .before .before .before .before .before .before .before .args .t1 .seats) (c .before .before .before .before .before .before .before .before .before .before .args .n) (c .before .before .before .before .before .before .before .before .before .before .pre),
       back,
     )
@@ -60,9 +56,8 @@ report-of-spec =
     cast-i
     mul-s
     element-copy-out-s
-    bench-air-requires
     mul-t12
-    element-copy-out-t19
+    element-copy-out-t18
     id-told-requires
     sqi-told-requires
     side-told-requires

@@ -6,8 +6,8 @@ use Rattle.reporting.proofs.reporting.written.Tie as tie
 report-of-requires : tie.Need-report-of-requires
 report-of-requires c κs = search needs
 
-write-rx-requires : tie.Need-write-rx-requires
-write-rx-requires c κs = search needs
+put-rx-requires : tie.Need-put-rx-requires
+put-rx-requires c κs = search needs
 
 enum-told : tie.Need-enum-told
 enum-told c = search needs
@@ -23,7 +23,7 @@ same-length c = search needs
 
 returns : tie.Need-returns
 returns c =
-    let told = c .before .before .before .before .write-rx .ensures in
+    let told = c .before .before .before .before .put-rx .ensures in
     let m = c .before .before .before .before .before .before .report-of .ensures in
     (told .0 ∙ rw m, (told .1 ∙ rw m, simp (c .enum-told .given .1)))
 
@@ -32,7 +32,7 @@ same-length-2 c = search needs
 
 returns-2 : tie.Need-returns-2
 returns-2 c =
-    let told = c .before .before .before .before .before .write-rx .ensures in
+    let told = c .before .before .before .before .before .put-rx .ensures in
     let m = c .before .before .before .before .before .before .before .report-of .ensures in
     (told .0 ∙ rw m, (told .1 ∙ rw m, simp (c .before .enum-told2 .given .1, c .reported-bench .ensures)))
 
@@ -41,7 +41,7 @@ written-spec =
     tie.close
     (tie.spec
     report-of-requires
-    write-rx-requires
+    put-rx-requires
     enum-told
     enum-told-2
     reported-bench-requires

@@ -17,6 +17,9 @@ enum-told c = search openingCases
 closed-bench-requires : tie.Need-closed-bench-requires
 closed-bench-requires c κs = search openingCases
 
+aired-requires : tie.Need-aired-requires
+aired-requires c κs = search openingCases
+
 returns : tie.Need-returns
 returns c = search openingCases
 
@@ -32,5 +35,6 @@ close-spec =
     enum-known-verdict
     enum-told
     closed-bench-requires
+    aired-requires
     returns
     returns-2)

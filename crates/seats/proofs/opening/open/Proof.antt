@@ -11,6 +11,9 @@ enum-told c = search openingCases
 opened-bench-requires : tie.Need-opened-bench-requires
 opened-bench-requires c κs = search openingCases
 
+aired-requires : tie.Need-aired-requires
+aired-requires c κs = search openingCases
+
 enum-told-2 : tie.Need-enum-told-2
 enum-told-2 c = search openingCases
 
@@ -23,4 +26,4 @@ returns-2 c = search openingCases
 pub open-spec : {M : Type 1} → statement M
 open-spec =
     tie.close
-    (tie.spec open-answer-requires enum-told opened-bench-requires enum-told-2 returns returns-2)
+    (tie.spec open-answer-requires enum-told opened-bench-requires aired-requires enum-told-2 returns returns-2)

@@ -5,6 +5,9 @@ use Rattle.seats.proofs.radio.side.Tie as tie
 sided-bench-requires : tie.Need-sided-bench-requires
 sided-bench-requires c κs = search radioCases
 
+aired-requires : tie.Need-aired-requires
+aired-requires c κs = search radioCases
+
 returns : tie.Need-returns
 returns c = search radioCases
 
@@ -12,4 +15,4 @@ returns-2 : tie.Need-returns-2
 returns-2 c = search radioCases
 
 pub side-spec : {M : Type 1} → statement M
-side-spec = tie.close (tie.spec sided-bench-requires returns returns-2)
+side-spec = tie.close (tie.spec sided-bench-requires aired-requires returns returns-2)
