@@ -8,7 +8,7 @@ use lib.IntN.{ℤ}
 use lib.ListN.{length, replicate}
 use Rattle.packet.specs.Refusals.{Case, refused}
 use Rattle.reader.specs.Reading.{readerRefusals}
-use Rattle.writer.specs.Writing.{writerRefusals, write, buffered}
+use Rattle.writer.specs.Writing.{writerRefusals, write, buffered, putRefusals, put, afterPut}
 use Rattle.packet.specs.declared.message.Direction.{Direction}
 use Rattle.packet.specs.declared.message.Message.{Message}
 use Rattle.air.specs.Air.{among}
@@ -21,9 +21,12 @@ use Rattle.demands.specs.ExactCalls.{refusalsOf, CallsExact}
 -- The writers, for every extension type, message, audio and room.
 pub record WritersExact : Type 0 where
   pub of-either : (ext : ℕ) (m : Message) (sound : List ℕ) (room : ℕ) → Exact (writerRefusals ext m sound room) (write ext m sound room)
+  pub of-put : (ext : ℕ) (m : Message) (sound : List ℕ) (room : ℕ) → Exact (putRefusals ext m sound room) (put ext m sound room)
   -- "State and buffers stay the same."
   pub refused-writes-nothing : (ext : ℕ) (m : Message) (sound buffer : List ℕ) (n cause : ℕ)
       → write ext m sound (length buffer) ≡ refused n cause → buffered ext m sound buffer ≡ buffer
+  pub refused-puts-nothing : (ext : ℕ) (m : Message) (sound buffer : List ℕ) (n cause : ℕ)
+      → put ext m sound (length buffer) ≡ refused n cause → afterPut ext m sound buffer ≡ buffer
 
 abbrev pub counted : (first many : ℕ) → List ℕ
 counted first zero = []
@@ -65,6 +68,10 @@ sideOrder = 23 ∷ []
 abbrev pub writersOrder : List ℕ
 writersOrder = 27 ∷ 26 ∷ []
 
+-- The writer of reports, below 27.
+abbrev pub putOrder : List ℕ
+putOrder = 26 ∷ []
+
 abbrev pub numbers : List Case → List ℕ
 numbers cases = map (λ c. c .number) cases
 
@@ -80,6 +87,7 @@ pub record Orders : Type 0 where
   pub of-received : (b : Bench) (signals : ℕ) (level : ℤ) → numbers (refusalsOf b (received signals level)) ≡ []
   pub of-transmitter : (b : Bench) (healthy : Bool) → numbers (refusalsOf b (transmitter healthy)) ≡ []
   pub of-writers : (ext : ℕ) (m : Message) (sound : List ℕ) (room : ℕ) → numbers (writerRefusals ext m sound room) ≡ writersOrder
+  pub of-put : (ext : ℕ) (m : Message) (sound : List ℕ) (room : ℕ) → numbers (putRefusals ext m sound room) ≡ putOrder
 
 pub record AllExact : Type 0 where
   pub readers : ReadersExact

@@ -1,4 +1,4 @@
--- The demands are stated over definitions: `readTx`, `write` and the like for packets, `step` for runs of calls. Here: the
+-- The demands are stated over definitions: `readTx`, `write` and the like for packets, `keeping` for runs of calls. Here: the
 -- code does what these say, so that they are theorems on the code. A promise is the `ensures` in the code, as in Tight.
 use Prim.Native.Nat.{ℕ}
 use mathlib.Core.Path.{_≡_}
@@ -8,7 +8,7 @@ use lib.ListN.{length, take}
 use Rattle.packet.specs.Refusals.{Answer, accepted, mapped}
 use Rattle.packet.specs.Packet.{payload}
 use Rattle.reader.specs.Reading.{readTx, readRx, txAnswer, rxAnswer}
-use Rattle.writer.specs.Writing.{fromTx, fromRx, write, buffered, writtenAnswer}
+use Rattle.writer.specs.Writing.{fromTx, fromRx, write, buffered, put, afterPut, writtenAnswer}
 use Rattle.record.specs.Record.{freshBench}
 use Rattle.seats.specs.Answers.{openAnswer, doneAnswer}
 use Rattle.hearing.specs.Hearing.{audioIn}
@@ -56,6 +56,8 @@ pub record StepOfCode : Type 1 where
       (writtenAnswer r ≡ write ext (fromTx m) (now sound) (length (now out))) × (now (e .1 .1 .1 .0) ≡ buffered ext (fromTx m) (now sound) (now out)))
   pub writes-rx : Gives writer.write_rx.Reads.Learnt (λ k (ext, (m, (sound, (out, end)))) r e.
       (writtenAnswer r ≡ write ext (fromRx m) (now sound) (length (now out))) × (now (e .1 .1 .1 .0) ≡ buffered ext (fromRx m) (now sound) (now out)))
+  pub puts-rx : Gives writer.put_rx.Reads.Learnt (λ k (ext, (m, (sound, (out, end)))) r e.
+      (writtenAnswer r ≡ put ext (fromRx m) (now sound) (length (now out))) × (now (e .1 .1 .1 .0) ≡ afterPut ext (fromRx m) (now sound) (now out)))
   -- the calls of the bench
   pub starts : Gives the-record.whole.Bench.fresh.Reads.Learnt (λ k (setup, end) r e. r ≡ freshBench setup)
   pub opens : Gives seats.«open».Reads.Learnt

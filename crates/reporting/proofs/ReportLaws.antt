@@ -6,7 +6,7 @@ use mathlib.Core.List.{List, [], _∷_, _++_}
 use lib.Dec.{ltb}
 use lib.ListN.{length}
 use Rattle.packet.specs.Refusals.{_if_, Answer, accepted, refused, refusal, verdictOf, judged}
-use Rattle.writer.specs.Writing.{fromRx, encode, filled, put, afterPut}
+use Rattle.writer.specs.Writing.{fromRx, encode, filled, putRefusals, put, afterPut}
 use Rattle.packet.specs.declared.refusal.Refusal.{Refusal}
 use Rattle.packet.specs.declared.refusal.Verdict.{Verdict}
 use Rattle.packet.specs.declared.refusal.Verdict.the-variants.{Fine, Refused}
@@ -59,7 +59,7 @@ module _ (b : Bench) (n timestamp : ℕ) (sound : List ℕ) (room : ℕ) where
     report-refused f = in-steps ∙ simp (← same-verdict n opened _ (b .signals) (length sound) here, ← told, f)
 
     pub report-written : v ≡ Fine → reportSaid b n timestamp sound room ≡ put (b .setup .ext) (fromRx (reportOf b n timestamp)) sound room
-    unfolding reportBytes put
+    unfolding reportBytes putRefusals put
     report-written f = in-steps ∙ simp (← same-verdict n opened _ (b .signals) (length sound) here, ← told, f)
 
 module _ (b : Bench) (n timestamp : ℕ) (sound buffer : List ℕ) where

@@ -1,6 +1,6 @@
 -- 01: "Radio events: signals received (0 to 255) with a level .. (any 16-bit signed number); transmitter healthy or not; side now
 -- in use (main or standby), set by the radio itself." 02, request 3: "The level becomes tenths". What they leave is withSignals,
--- withHealth and withSide of the record.
+-- withHealth and withSide of the record, its air made right (aired).
 use mathlib.Core.Bool.{not}
 use mathlib.Core.List.{List, [], _∷_}
 use Rattle.packet.specs.Refusals.{Case, _if_, Answer, judged}

@@ -1,4 +1,4 @@
-// What opening, closing, time and the radio do to the bench.
+// What opening, closing, time and the radio do to the bench. Each accepted call leaves the air right in the record (`aired`).
 // Start at specs/Opening.antt, then Ticking.antt and Radio.antt, which say in 01's order what the public functions promise;
 // specs/Answers.antt reads their answers as 01 writes them.
 pub mod answer;

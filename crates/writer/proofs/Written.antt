@@ -10,7 +10,7 @@ use lib.ListN.{length, length-append}
 use Rattle.base.specs.Bytes.{overlaid}
 use Rattle.base.proofs.Buffers.{overlaid-fits}
 use Rattle.packet.specs.Refusals.{accepted, refused}
-use Rattle.writer.specs.Writing.{risingItems, fewestWords, headOf, encode, writable, writerRefusals, write, buffered, put, afterPut}
+use Rattle.writer.specs.Writing.{risingItems, fewestWords, headOf, encode, writable, writerRefusals, write, buffered, putRefusals, put, afterPut}
 use Rattle.packet.specs.declared.message.Message.{Message}
 use Rattle.writer.proofs.Words.{words-length}
 
@@ -25,7 +25,7 @@ module _ (ext : ℕ) (m : Message) (sound out : List ℕ) where
 
   pub writes-as-put : writable m (length sound) ≡ true
       → (write ext m sound (length out) ≡ put ext m sound (length out)) × (buffered ext m sound out ≡ afterPut ext m sound out)
-  unfolding write writerRefusals buffered put afterPut
+  unfolding write writerRefusals buffered putRefusals put afterPut
   writes-as-put fine = (simp fine, simp fine)
 
   module _ (n : ℕ) (long : n ≡ 16 + 4 * fewestWords (risingItems (m .items)) + length sound) where
@@ -33,13 +33,13 @@ module _ (ext : ℕ) (m : Message) (sound out : List ℕ) where
     all = long ∙ sym (encoded-length ext m sound)
 
     pub too-short : length out < n → (put ext m sound (length out) ≡ refused 26 0) × (afterPut ext m sound out ≡ out)
-    unfolding put afterPut
+    unfolding putRefusals put afterPut
     too-short short =
         let h : ltb (length out) (length (encode ext m sound)) ≡ true = lt-ltb _ _ (rw all at short) in
         (simp h, simp h)
 
     pub written : n ≤ length out → (put ext m sound (length out) ≡ accepted n) × (afterPut ext m sound out ≡ overlaid (encode ext m sound) out)
-    unfolding put afterPut
+    unfolding putRefusals put afterPut
     written fits =
         let room : length (encode ext m sound) ≤ length out = rw all at fits in
         let h : ltb (length out) (length (encode ext m sound)) ≡ false = le-ltb _ _ room in

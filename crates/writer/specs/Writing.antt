@@ -135,10 +135,13 @@ filled (refused n c) packet buffer = buffer
 unfoldable pub buffered : (ext : ℕ) → Message → (audio buffer : List ℕ) → List ℕ
 buffered ext m audio buffer = filled (write ext m audio (length buffer)) (encode ext m audio) buffer
 
--- 02, request 5: below 27, what is written of a message whatever its values are, each cut to its bits: refused with 26 alone.
--- (A report tells the air that the record keeps, and a record made by hand may hold one that 27 would turn away.)
+-- Below 27: what is written of a message whatever its values are, each cut to its bits. 26 alone. (02, request 5: a report tells the air
+-- that the record keeps, and a record made by hand may hold one that 27 would turn away.)
+unfoldable pub putRefusals : (ext : ℕ) → Message → (audio : List ℕ) → (room : ℕ) → List Case
+putRefusals ext m audio room = 26 if ltb room (length (encode ext m audio)) ∷ []
+
 unfoldable pub put : (ext : ℕ) → Message → (audio : List ℕ) → (room : ℕ) → Answer ℕ
-put ext m audio room = judged (26 if ltb room (length (encode ext m audio)) ∷ []) (length (encode ext m audio))
+put ext m audio room = judged (putRefusals ext m audio room) (length (encode ext m audio))
 
 unfoldable pub afterPut : (ext : ℕ) → Message → (audio buffer : List ℕ) → List ℕ
 afterPut ext m audio buffer = filled (put ext m audio (length buffer)) (encode ext m audio) buffer

@@ -5,7 +5,7 @@ use Rattle.record.specs.Record.{freshBench, withAir}
 use Rattle.air.specs.Air.{aired}
 use Rattle.air.proofs.Kept.{right-at-start}
 use Rattle.bench.specs.Step.{Call, Outcome, step, keeping, after}
-use Rattle.bench.proofs.Keeping.{as-meant, run-as-meant}
+use Rattle.bench.proofs.Keeping.{unread, as-meant, run-as-meant}
 use Rattle.record.specs.declared.setup.Setup.{Setup}
 use Rattle.record.specs.declared.whole.Bench.{Bench}
 use Rattle.demands.specs.AirKept.{AirRight}
@@ -22,4 +22,4 @@ from-right : (b : Bench) (c : Call) → AirRight b → keeping b c ≡ record { 
 from-right b c right = ap (λ (x : Bench). keeping x c) (ap (withAir b) right) ∙ as-meant b c
 
 pub answers-stay : AnswersStay
-answers-stay = record { each-answer = each-answer; each-bench = each-bench; from-right = from-right }
+answers-stay = record { unread = unread; each-answer = each-answer; each-bench = each-bench; from-right = from-right }

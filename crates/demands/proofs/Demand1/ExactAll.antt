@@ -4,7 +4,7 @@ use mathlib.Core.Path.{ap, refl}
 use lib.ListN.{length}
 use Rattle.packet.specs.Refusals.{Answer}
 use Rattle.reader.specs.Reading.{readerRefusals}
-use Rattle.writer.specs.Writing.{encode, filled, writerRefusals, write, buffered}
+use Rattle.writer.specs.Writing.{encode, filled, writerRefusals, write, buffered, putRefusals, put, afterPut}
 use Rattle.seats.specs.Opening.{openRefusals, seatRefusals}
 use Rattle.seats.specs.Ticking.{tickRefusals}
 use Rattle.seats.specs.Radio.{sideRefusals}
@@ -16,15 +16,17 @@ use Rattle.demands.proofs.Demand1.Exact.{exact-judged, readers-exact}
 use Rattle.demands.proofs.Demand1.ExactCalls.{calls-exact}
 
 writers-exact : WritersExact
-unfolding write buffered
+unfolding write buffered put afterPut
 writers-exact =
     record {
       of-either = λ ext m sound room. exact-judged (length (encode ext m sound)) (writerRefusals ext m sound room);
+      of-put = λ ext m sound room. exact-judged (length (encode ext m sound)) (putRefusals ext m sound room);
       refused-writes-nothing = λ ext m sound buffer n cause e. ap (λ (a : Answer ℕ). filled a (encode ext m sound) buffer) e;
+      refused-puts-nothing = λ ext m sound buffer n cause e. ap (λ (a : Answer ℕ). filled a (encode ext m sound) buffer) e;
     }
 
 orders : Orders
-unfolding readerRefusals writerRefusals openRefusals seatRefusals tickRefusals sideRefusals messageRefusals packetRefusals reportRefusals
+unfolding readerRefusals writerRefusals putRefusals openRefusals seatRefusals tickRefusals sideRefusals messageRefusals packetRefusals reportRefusals
 orders =
     record {
       of-readers = λ d ext p. refl;
@@ -37,6 +39,7 @@ orders =
       of-received = λ b signals level. refl;
       of-transmitter = λ b healthy. refl;
       of-writers = λ ext m sound room. refl;
+      of-put = λ ext m sound room. refl;
     }
 
 pub all-exact : AllExact

@@ -1,4 +1,4 @@
--- What each call of the code answers and leaves is what `step` says: the promises and `step` cite the same definitions.
+-- What each call of the code answers and leaves is what `keeping` says: the promises and `keeping` cite the same definitions.
 use Prim.Native.Nat.{ℕ}
 use mathlib.Core.Path.{_≡_, refl, ap, ap₂, _∙_}
 use mathlib.Core.List.{List}
@@ -40,6 +40,7 @@ step-of-code = record {
   pays-out = λ k a r e p. p .0;
   writes-tx = λ k a r e p. p;
   writes-rx = λ k a r e p. p;
+  puts-rx = λ k a r e p. p;
   starts = λ k a r e p. p;
   opens = λ k a r e p. ap₂ did (ap (mapped own) (p .0)) (p .1);
   closes = λ k a r e p. ap₂ did (ap (mapped wasDone) (p .0)) (p .1);
