@@ -7,6 +7,7 @@ pub use hearing::PacketAnswer;
 pub use hearing::Packeted;
 pub use hearing::audio;
 pub use hearing::packet;
+pub use record::Air;
 pub use record::Bench;
 pub use record::Setup;
 pub use reporting::Reported;

@@ -1,11 +1,11 @@
 // The lines of answers, with no line end.
 ghost use Prim.Native.Nat.{_<_};
 use base::part;
+use bench::Air;
 use bench::Hearing;
 use bench::SeatSets;
 use grammar::ROOM;
 use packet::Refusal;
-use record::Air;
 use show::refusal_line;
 use text::put;
 use text::put_bit;

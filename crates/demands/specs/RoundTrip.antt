@@ -12,8 +12,8 @@ use Rattle.packet.specs.declared.message.Message.{Message}
 use Rattle.packet.specs.declared.message.Tx.{Tx}
 use Rattle.packet.specs.declared.message.Rx.{Rx}
 use Rattle.record.specs.declared.whole.Bench.{Bench}
-use Rattle.air.specs.Air.{benchAir}
 use Rattle.reporting.specs.Reporting.{reportOf, reportSaid, reportBytes}
+use Rattle.demands.specs.AirKept.{AirRight}
 use Rattle.demands.specs.Plain.{Plain}
 
 -- Numbers that fit their bytes: the code's types see to it.
@@ -43,7 +43,7 @@ WrittenAtFront =
 -- made by hand may hold a PTT type or a ptt-id that a report has no bits for.
 abbrev pub ReportsReadBack : Type 0
 ReportsReadBack =
-    (b : Bench) → b .air ≡ benchAir b → (n timestamp : ℕ) (sound : List ℕ) (room long : ℕ) → Narrow (b .setup .ext) (fromRx (reportOf b n timestamp))
+    (b : Bench) → AirRight b → (n timestamp : ℕ) (sound : List ℕ) (room long : ℕ) → Narrow (b .setup .ext) (fromRx (reportOf b n timestamp))
     → reportSaid b n timestamp sound room ≡ accepted long → readRx (b .setup .ext) (reportBytes b n timestamp sound) ≡ accepted (reportOf b n timestamp)
 
 -- 01: "Writers write only this", plain form.

@@ -11,10 +11,10 @@ use Rattle.base.specs.Lists.{howMany}
 use Rattle.packet.specs.Refusals.{accepted}
 use Rattle.record.specs.Record.{noSuchSeat, seatOf}
 use Rattle.seats.specs.Ticking.{longestTick, tooLong, noSeats, tickSets}
-use Rattle.air.specs.Air.{benchAir}
 use Rattle.bench.specs.Step.{tick, ticked, keeping, after}
 use Rattle.record.specs.declared.whole.Bench.{Bench}
 use Rattle.demands.specs.Kept.{Kept}
+use Rattle.demands.specs.AirKept.{AirRight}
 
 -- What is told of one seat, by the first tick (₁), by the second (₂) and by the merged one; and whether it is open afterwards.
 pub record ToldAlike (closed₁ closed₂ closed due₁ due₂ due isOpen : Bool) : Type 0 where
@@ -56,7 +56,7 @@ pub record TicksAddUp : Type 0 where
       → time (x ∷ xs) ≡ time (y ∷ ys) → after keeping b (map tick (x ∷ xs)) ≡ after keeping b (map tick (y ∷ ys))
   -- Of every bench that calls lead to (Kept, AirKept). Of any other, with eight seats, exactly if the air in the record is right and each
   -- open seat has time left and a phase below its period.
-  pub zero : (b : Bench) → Kept b → b .air ≡ benchAir b → ZeroChangesNothing b
+  pub zero : (b : Bench) → Kept b → AirRight b → ZeroChangesNothing b
   pub zero-exactly : (b : Bench) → length (b .seats) ≡ 8
       → ZeroChangesNothing b
-      ↔ ((b .air ≡ benchAir b) × ((n : ℕ) → let s = seatOf (b .seats) n in s .opened ≡ true → (1 ≤ s .left) × (s .phase < s .period)))
+      ↔ (AirRight b × ((n : ℕ) → let s = seatOf (b .seats) n in s .opened ≡ true → (1 ≤ s .left) × (s .phase < s .period)))

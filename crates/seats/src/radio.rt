@@ -37,8 +37,9 @@ pub fn side(b: Bench, standby: bool) -> Done
     let setup = b.setup;
     if setup.pair {
         let sided = sided_bench(b, standby);
+        let next = aired(sided);
         return Done {
-            bench: aired(sided),
+            bench: next,
             answer: DoneAnswer::Done,
         };
     }

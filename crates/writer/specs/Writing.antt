@@ -135,8 +135,8 @@ filled (refused n c) packet buffer = buffer
 unfoldable pub buffered : (ext : ℕ) → Message → (audio buffer : List ℕ) → List ℕ
 buffered ext m audio buffer = filled (write ext m audio (length buffer)) (encode ext m audio) buffer
 
--- Below 27: what is written of a message whatever its values are, each cut to its bits. 26 alone. (02, request 5: a report tells the air
--- that the record keeps, and a record made by hand may hold one that 27 would turn away.)
+-- Below 27, with 26 alone: what is written of a message whatever its values are; one that is too large runs over into the bits in front
+-- of its own. (02, request 5: a report tells the air that the record keeps, and one made by hand may hold what 27 would turn away.)
 unfoldable pub putRefusals : (ext : ℕ) → Message → (audio : List ℕ) → (room : ℕ) → List Case
 putRefusals ext m audio room = 26 if ltb room (length (encode ext m audio)) ∷ []
 

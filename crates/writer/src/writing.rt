@@ -36,7 +36,7 @@ pub fn write_rx(ext: u16, m: Rx, audio: &[u8], out: &mut [u8]) -> Written
     write(ext, from_rx(m), audio, out)
 }
 
-// Writes a packet to a voice switch whatever its values are, each cut to its bits: 26 alone. Reports are written by it.
+// Writes a packet to a voice switch whatever its values are, and refuses it with 26 alone. Reports are written by it.
 pub fn put_rx(ext: u16, m: Rx, audio: &[u8], out: &mut [u8]) -> Written
     ensures { λ r. ⌜ writtenAnswer r ≡ put ext (fromRx m) (now (audio .entry)) (length (now (out .entry))) ⌝ }
     ensures { λ _. ⌜ now (out .exit) ≡ afterPut ext (fromRx m) (now (audio .entry)) (now (out .entry)) ⌝ }

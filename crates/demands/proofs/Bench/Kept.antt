@@ -181,13 +181,13 @@ module _ (b : Bench) (kept : Kept b) where
         single-on-main = λ e. main-kept c fits none (sym (ap (λ (setup : Setup). setup .pair) (same-setup b c)) ∙ e);
       }
 
-pub kept-step : (b : Bench) (c : Call) → Kept b → InRange c → Kept (keeping b c .bench)
-kept-step b c kept fits = after-call Kept b c kept (kept-made b kept c fits)
+pub kept-call : (b : Bench) (c : Call) → Kept b → InRange c → Kept (keeping b c .bench)
+kept-call b c kept fits = after-call Kept b c kept (kept-made b kept c fits)
 
 pub kept-after : (b : Bench) (cs : List Call) → Kept b → AllInRange cs → Kept (after keeping b cs)
 unfolding after
 kept-after b [] kept fit = kept
-kept-after b (c ∷ cs) kept fit = kept-after (keeping b c .bench) cs (kept-step b c kept (fit .0)) (fit .1)
+kept-after b (c ∷ cs) kept fit = kept-after (keeping b c .bench) cs (kept-call b c kept (fit .0)) (fit .1)
 
 pub kept-throughout : KeptThroughout
-kept-throughout = record { at-the-start = kept-fresh; by-each-call = kept-step; in-every-run = λ setup cs. kept-after (freshBench setup) cs (kept-fresh setup) }
+kept-throughout = record { at-the-start = kept-fresh; by-each-call = kept-call; in-every-run = λ setup cs. kept-after (freshBench setup) cs (kept-fresh setup) }
