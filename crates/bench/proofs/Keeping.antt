@@ -4,7 +4,7 @@ use mathlib.Core.Path.{_≡_, refl, ap, _∙_}
 use mathlib.Core.List.{List, [], _∷_}
 use Rattle.packet.specs.Refusals.{Answer, accepted, refused, mapped}
 use Rattle.packet.proofs.Judged.{never}
-use Rattle.record.specs.Record.{withAir}
+use Rattle.record.specs.Record.{withSide, withAir}
 use Rattle.seats.specs.Opening.{openSaid, openedBench, closeSaid, closedBench}
 use Rattle.seats.specs.Ticking.{tickSaid, tickSets, tickedBench}
 use Rattle.seats.specs.Radio.{sideSaid}
@@ -24,7 +24,7 @@ unfolding does
 report-reads b n timestamp sound room = refl
 
 -- a refused call leaves it whole
-was-refused : {A : Type 0} (answer : Answer A) (tell : A → Said) (n cause : ℕ) → mapped tell answer ≡ refused n cause → answer ≡ refused n cause
+pub was-refused : {A : Type 0} (answer : Answer A) (tell : A → Said) (n cause : ℕ) → mapped tell answer ≡ refused n cause → answer ≡ refused n cause
 was-refused (accepted a) tell n cause e = absurd (never (tell a) n cause e)
 was-refused (refused m c) tell n cause e = cc
 
@@ -45,45 +45,43 @@ refused-keeps b (side standby) k cause e = simp (was-refused (sideSaid b) (λ u.
 abbrev pub changed : (Bench → Bench) → Outcome → Outcome
 changed f o = record { answer = o .answer; bench = f (o .bench) }
 
-outcome-changed : (f : Bench → Bench) {A : Type 0} (answer : Answer A) (tell : A → Said) (b next : Bench)
-    → outcome answer tell (f b) (f next) ≡ changed f (outcome answer tell b next)
-outcome-changed f (accepted a) tell b next = refl
-outcome-changed f (refused n cause) tell b next = refl
+-- A call on b with another air does what 01 has it do on b, but for the air that it leaves (f), where a report is shown the air of b.
+module _ (shown kept f : Bench → Bench) (b : Bench) (air : Air) (sees : shown (withAir b air) ≡ aired b) (stands : withAir b air ≡ f b)
+    (reports : (n : ℕ) → withAir (reportedBench b n) air ≡ f (reportedBench b n)) (keeps : (next : Bench) → kept (withAir next air) ≡ f next) where
+  settles : {A : Type 0} (answer : Answer A) (tell : A → Said) (next : Bench) {left : Bench} → left ≡ f next
+      → outcome answer tell (withAir b air) left ≡ changed f (outcome answer tell b next)
+  settles (accepted a) tell next e = ap (λ (x : Bench). record { answer = accepted (tell a); bench = x }) e
+  settles (refused n cause) tell next e = ap (λ (x : Bench). record { answer = refused n cause; bench = x }) stands
 
--- 01 neither reads nor moves what the record keeps of the air.
+  but-for-air : (c : Call) → does shown kept (withAir b air) c ≡ changed f (step b c)
+  unfolding does benchAir keyings
+  but-for-air (opening n r) = unfold openSaid openedBench in settles (openSaid b n r) own (openedBench b n r) (keeps _)
+  but-for-air (closing n) = unfold closeSaid closedBench in settles (closeSaid b n) (λ u. done) (closedBench b n) (keeps _)
+  but-for-air (packet n p) =
+      unfold packetSaid heardBench hearing isSent in
+      settles (packetSaid b n p) (told (packetSaid b n p) p) (heardBench b n (messageIn p)) (keeps _)
+  but-for-air (tick ms) =
+      unfold tickSets tickedBench in
+      settles (tickSaid ms) (λ u. ticked (tickSets b ms .closed) (tickSets b ms .due)) (tickedBench b ms) (keeps _)
+  but-for-air (report n timestamp sound room) =
+      rw sees
+      (unfold reportedBench in
+      settles (reportSaid (aired b) n timestamp sound room) (λ k. written (reportBytes (aired b) n timestamp sound)) (reportedBench b n) (reports n))
+  but-for-air (received signals level) = ap (λ (x : Bench). record { answer = accepted done; bench = x }) (keeps _)
+  but-for-air (transmitter healthy) = ap (λ (x : Bench). record { answer = accepted done; bench = x }) (keeps _)
+  but-for-air (side standby) = unfold sideSaid in settles (sideSaid b) (λ u. done) (withSide b standby) (keeps _)
+
+-- So 01 neither reads nor moves what the record keeps of the air;
 pub unread : (b : Bench) (air : Air) (c : Call) → step (withAir b air) c ≡ changed (λ x. withAir x air) (step b c)
-unfolding does benchAir keyings
-unread b air (opening n r) = unfold openSaid openedBench in outcome-changed (λ x. withAir x air) (openSaid b n r) own b (openedBench b n r)
-unread b air (closing n) = unfold closeSaid closedBench in outcome-changed (λ x. withAir x air) (closeSaid b n) (λ u. done) b (closedBench b n)
-unread b air (packet n p) =
-    unfold packetSaid heardBench hearing isSent in
-    outcome-changed (λ x. withAir x air) (packetSaid b n p) (told (packetSaid b n p) p) b (heardBench b n (messageIn p))
-unread b air (tick ms) =
-    unfold tickSets tickedBench in
-    outcome-changed (λ x. withAir x air) (tickSaid ms) (λ u. ticked (tickSets b ms .closed) (tickSets b ms .due)) b (tickedBench b ms)
-unread b air (report n timestamp sound room) =
-    unfold reportedBench in
-    outcome-changed (λ x. withAir x air) (reportSaid (aired b) n timestamp sound room) (λ k. written (reportBytes (aired b) n timestamp sound)) b (reportedBench b n)
-unread b air (received signals level) = refl
-unread b air (transmitter healthy) = refl
-unread b air (side standby) = unfold sideSaid in outcome-changed (λ x. withAir x air) (sideSaid b) (λ u. done) b _
+unfolding benchAir keyings
+unread b air = but-for-air aired (λ x. x) (λ x. withAir x air) b air refl refl (λ n. refl) (λ next. refl)
 
--- Where the air is right a call answers what 01 has it answer, and leaves the bench that 01 leaves, with its air made right.
+-- and where the air is right, a call answers what 01 has it answer, and leaves the bench that 01 leaves, with its air made right.
 pub as-meant : (b : Bench) (c : Call) → keeping (aired b) c ≡ changed aired (step b c)
-unfolding does benchAir keyings
-as-meant b (opening n r) = unfold openSaid openedBench in outcome-changed aired (openSaid b n r) own b (openedBench b n r)
-as-meant b (closing n) = unfold closeSaid closedBench in outcome-changed aired (closeSaid b n) (λ u. done) b (closedBench b n)
-as-meant b (packet n p) =
-    unfold packetSaid heardBench hearing isSent in outcome-changed aired (packetSaid b n p) (told (packetSaid b n p) p) b (heardBench b n (messageIn p))
-as-meant b (tick ms) =
-    unfold tickSets tickedBench in outcome-changed aired (tickSaid ms) (λ u. ticked (tickSets b ms .closed) (tickSets b ms .due)) b (tickedBench b ms)
-as-meant b (report n timestamp sound room) =
-    unfold reportedBench in outcome-changed aired (reportSaid (aired b) n timestamp sound room) (λ k. written (reportBytes (aired b) n timestamp sound)) b (reportedBench b n)
-as-meant b (received signals level) = refl
-as-meant b (transmitter healthy) = refl
-as-meant b (side standby) = unfold sideSaid in outcome-changed aired (sideSaid b) (λ u. done) b _
+unfolding benchAir keyings
+as-meant b = but-for-air (λ x. x) aired aired b (benchAir b) refl refl (λ n. unfold reportedBench in refl) (λ next. refl)
 
--- So along every run.
+-- Along every run, too.
 pub run-as-meant : (b : Bench) (cs : List Call) → after keeping (aired b) cs ≡ aired (after step b cs)
 unfolding after
 run-as-meant b [] = refl

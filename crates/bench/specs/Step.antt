@@ -43,6 +43,7 @@ outcome answer tell before after = record { answer = mapped tell answer; bench =
 abbrev pub told : Answer Hearing → List ℕ → Hearing → Said
 told answer p h = heard (h .missing) (h .reply) (h .standby) (audioIn answer p)
 
+-- What answers calls.
 abbrev pub Machine : Type 0
 Machine = Bench → Call → Outcome
 

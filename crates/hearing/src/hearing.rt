@@ -134,7 +134,7 @@ fn let_in(setup: Setup, n: u8, s: Seat, m: Tx) -> TxRead
     }
 }
 
-// As the record shows it.
+// Whether seat n is on the air, as the record has it.
 fn on_air(b: Bench, n: u8) -> bool
     requires { ⌜ noSuchSeat n ≡ false ⌝ }
     ensures { λ r. ⌜ r ≡ getD (b .air .on) (n - 1) false ⌝ }

@@ -23,22 +23,22 @@ pub air-at-start : (setup : Setup) → AirRight (freshBench setup)
 air-at-start setup = subst AirRight (right-at-start setup) (sym (air-unread (freshBench setup)))
 
 -- a report leaves what stands there, every other accepted call makes it right
-left-right : (b : Bench) (c : Call) → NoReport c ⊎ AirRight b → AirRight (benchAfter b c)
-left-right b (opening n r) known = sym (air-unread _)
-left-right b (closing n) known = sym (air-unread _)
-left-right b (packet n p) known = sym (air-unread _)
-left-right b (tick ms) known = sym (air-unread _)
-left-right b (report n timestamp sound room) (inl none) = absurd (none n timestamp sound room refl)
-left-right b (report n timestamp sound room) (inr right) = unfold reportedBench benchAir keyings in right
-left-right b (received signals level) known = sym (air-unread _)
-left-right b (transmitter healthy) known = sym (air-unread _)
-left-right b (side standby) known = sym (air-unread _)
+air-left : (b : Bench) (c : Call) → NoReport c ⊎ AirRight b → AirRight (benchAfter b c)
+air-left b (opening n r) known = sym (air-unread _)
+air-left b (closing n) known = sym (air-unread _)
+air-left b (packet n p) known = sym (air-unread _)
+air-left b (tick ms) known = sym (air-unread _)
+air-left b (report n timestamp sound room) (inl none) = absurd (none n timestamp sound room refl)
+air-left b (report n timestamp sound room) (inr right) = unfold reportedBench benchAir keyings in right
+air-left b (received signals level) known = sym (air-unread _)
+air-left b (transmitter healthy) known = sym (air-unread _)
+air-left b (side standby) known = sym (air-unread _)
 
 pub air-by-call : (b : Bench) (c : Call) → AirRight b → AirRight (keeping b c .bench)
-air-by-call b c right = after-call AirRight b c right (λ none. left-right b c (inr right))
+air-by-call b c right = after-call AirRight b c right (λ none. air-left b c (inr right))
 
 by-accepted : (b : Bench) (c : Call) → NoCase (refusalsOf b c) → NoReport c → AirRight (keeping b c .bench)
-by-accepted b c none no-report = subst AirRight (sym (accepted-bench b c none)) (left-right b c (inl no-report))
+by-accepted b c none no-report = subst AirRight (sym (accepted-bench b c none)) (air-left b c (inl no-report))
 
 by-report : (b : Bench) (n timestamp : ℕ) (sound : List ℕ) (room : ℕ) → keeping b (report n timestamp sound room) .bench .air ≡ b .air
 by-report b n timestamp sound room =
