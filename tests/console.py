@@ -17,7 +17,7 @@ USAGE = {
     "setup": "setup SEATS EXT single|pair lockout|summation interruption|summation",
     "open": "open SEAT idle|rxonly|txrx|coupling PERIOD MULTIPLIER SSRC SEQUENCE",
     "close": "close SEAT",
-    "tick": "tick MS",
+    "tick": "tick MS TIMESTAMP ROOM",
     "packet": "packet SEAT HEX",
     "report": "report SEAT TIMESTAMP AUDIO ROOM",
     "received": "received COUNT LEVEL",
@@ -113,7 +113,7 @@ ARGUMENTS = {
     "setup": (seats, extension, one_of("single", "pair"), one_of("lockout", "summation"), one_of("interruption", "summation")),
     "open": (byte, one_of("idle", "rxonly", "txrx", "coupling"), half, byte, whole, half),
     "close": (byte,),
-    "tick": (half,),
+    "tick": (half, whole, room),
     "packet": (byte, data),
     "report": (byte, whole, data, room),
     "received": (byte, level),
@@ -195,11 +195,12 @@ class Console:
     def close(self, seat):
         return self.bench.close(seat) or "ok"
 
-    def tick(self, ms):
-        answer = self.bench.tick(ms)
+    def tick(self, *given):
+        answer = self.bench.tick(*given)
         if isinstance(answer, model.Refused):
             return answer
-        return f"ok closed={shown_seats(answer.closed)} due={shown_seats(answer.due)}"
+        seats = f"closed={shown_seats(answer.closed)} due={shown_seats(answer.due)}"
+        return f"ok {seats} used={len(answer.sent)} {hexed(answer.sent)}"
 
     def packet(self, seat, packet):
         answer = self.bench.packet(seat, packet)

@@ -55,8 +55,15 @@ def at_length():
     return "".join(line + "\n" for line in s.lines).encode("latin-1")
 
 
+def every_room():
+    """Eight seats are due, and their reports take 208 bytes; the number of a report behind the tick tells whether they were written."""
+    opened = [PAIR, "received 1 -850", *(f"open {seat} txrx 20 50 {seat} 0" for seat in range(1, 9))]
+    lines = [line for room in range(514) for line in (*opened, f"tick 20 0 {room}", "report 1 0 - 24")]
+    return "".join(line + "\n" for line in lines).encode()
+
+
 def edges():
-    line = b"tick 0"
+    line = b"tick 0 0 208"
     yield "empty input", b""
     yield "newlines alone", b"\n\n\r\n\n"
     yield "no last newline", b"close 1\nclose 9"
@@ -70,6 +77,7 @@ def edges():
     yield "every byte inside a word", b"".join(b"close 9" + bytes([b]) + b"9\n" for b in range(256))
     yield "a long session", long_session()
     yield "words at length", at_length()
+    yield "a tick with every room", every_room()
     yield "air behind each line", b"".join(line + b"\nair\n" for line in random_session(5_000, 3).splitlines())
     yield "every level of 16 bits", b"".join(b"quality %d\n" % level for level in range(-32768, 32768))
 
@@ -143,7 +151,9 @@ class Random:
         return f"report {self.seat()} {self.r.randrange(2**32)} {self.audio()} {self.r.choice([20, 24, 264, 512, 0])}"
 
     def tick(self):
-        return f"tick {self.r.choice([0, 1, 10, 10, 20, 20, 20, 100, 500, 1000, 1001, 65536])}"
+        r = self.r
+        ms, room = r.choice([0, 1, 10, 10, 20, 20, 20, 100, 500, 1000, 1001, 65536]), r.choice([208] * 8 + [209, 512, 0, 207, 513])
+        return f"tick {ms} {r.randrange(2**32)} {room}"
 
     def close(self):
         return f"close {self.seat()}"

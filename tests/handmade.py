@@ -1,4 +1,4 @@
-"""Packets put together byte by byte, so that they can break any rule, and type 4 items (DDC)."""
+"""Packets put together byte by byte, so that they can break any rule, type 4 items (DDC), and what a tick sends taken apart."""
 
 EXT = 0x0167
 
@@ -46,6 +46,18 @@ def with_ddc(plain, item, at=0):
     words = bytes([plain[16], plain[17] | 1]) + plain[18 : 18 + at] + item + plain[18 + at : end]
     words += bytes(-len(words) % 4)
     return plain[:15] + bytes([len(words) // 4]) + words + plain[end:]
+
+
+def records(ticked):
+    """The reports in a tick's answer. Each is behind its length, two bytes in network byte order (RFC 4571; document 003, table 5)."""
+    last = ticked.split()[-1]
+    sent, reports = b"" if last == "-" else bytes.fromhex(last), []
+    while sent:
+        end = 2 + int.from_bytes(sent[:2], "big")
+        assert end <= len(sent), ticked
+        reports.append(sent[2:end])
+        sent = sent[end:]
+    return reports
 
 
 def some_ddc(r, plain, items):

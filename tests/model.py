@@ -4,8 +4,9 @@ It is written from their sentences alone, shares no code with the library and ta
 ways where it can: fields are cut from a string of bits, items are a list of (type, value)
 pairs, and a keying keeps the number of the packet that began it, in a number without end.
 The tests work out their expected answers with it: `import model` gives both parts, packets
-(model_packet.py) and the bench (model_bench.py). Run by itself this file tries 01's printed
-examples and 02's levels on the model. Open points are read as in docs/DECISIONS.md.
+(model_packet.py) and the bench (model_bench.py, over its record, model_record.py). Run by itself
+this file tries 01's printed examples and 02's levels on the model. Open points are read as in
+docs/DECISIONS.md.
 """
 
 from model_bench import *
@@ -51,8 +52,7 @@ def try_examples():
     assert [(told(bench, n).id, told(bench, n).ptts) for n in (2, 5, 7)] == [(2, 1), (5, 1), (2, 1)]
     # "Period 200, multiplier 10: 1999 ms open, 2000 closed."
     bench = bench_with(Setup(), [])
-    assert bench.tick(1000).closed == () and bench.tick(999).closed == ()
-    assert bench.tick(1).closed == (1, 2, 3, 4, 5, 6, 7, 8)
+    assert [bench.tick(ms, 0, 208).closed for ms in (1000, 999, 1)] == [(), (), (1, 2, 3, 4, 5, 6, 7, 8)]
     print("01's printed examples hold in the model")
 
 

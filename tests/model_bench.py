@@ -1,82 +1,20 @@
-"""Document 01's bench, levels as in 02's third request, the air kept as in its fifth: its calls, who is on the air, reports.
-Part of the model, see model.py."""
-
-from dataclasses import dataclass
+"""Document 01's bench, levels as in 02's third request, the air kept as in its fifth, ticks with their reports as in its sixth: its
+calls, who is on the air, reports. Part of the model, see model.py."""
 
 from model_packet import *
+from model_record import *
 
 
 # ---- The bench and its calls
 
-IDLE, RXONLY, TXRX, COUPLING_CALL = "idle", "rxonly", "txrx", "coupling"
-
-
-@dataclass(frozen=True)
-class Setup:
-    # "Set-up: which seats are lesson seats (the others are live), the extension type, single radio
-    #  or pair, equal-rank mode (lockout or summation), coupling mode (interruption or summation)."
-
-    lessons: frozenset = frozenset({7, 8})
-    ext: int = 0x0167
-    pair: bool = True
-    equal_rank: str = "lockout"
-    coupling: str = "interruption"
-
-
-@dataclass
-class Seat:
-    """An open seat."""
-
-    number: int
-    call: str
-    period: int
-    multiplier: int
-    report_ssrc: int
-    report_sequence: int
-    left: int  # ms until it is closed by silence
-    since_due: int = 0  # ms ticked since its period last ran out
-    # "A seat just opened has heard nothing; its last field counts as all zero without items."
-    heard: bool = False
-    ssrc: int = None
-    sequence: int = None
-    last: Field = Field()
-    keying_began: int = None
-
-    @property
-    def own_id(self):
-        # "The answer is its own ptt-id: the seat number for TxRx and Coupling, else 0."
-        return self.number if self.call in (TXRX, COUPLING_CALL) else 0
-
-
-@dataclass(frozen=True)
-class PacketAnswer:
-    missing: int
-    reply: bool
-    side: int
-    audio: bytes
-
-
-@dataclass(frozen=True)
-class TickAnswer:
-    closed: tuple
-    due: tuple
-
-
-@dataclass(frozen=True)
-class Air:
-    # 02: "Keep the on-air seats and the top type in the bench record"
-    on: tuple = ()
-    ptt: int = OFF
-
-
-def keyed(field):
-    # "PTT on and PM 0"
-    return field.ptt != OFF and field.pm == 0
-
-
 def distance(last, new):
     # "new sequence minus last accepted, taken modulo 65536 into -32768 to 32767"
     return (new - last + 32768) % 65536 - 32768
+
+
+def framed(packet):
+    # RFC 4571, 2: an unsigned LENGTH of 16 bits in network byte order, then a packet of so many octets
+    return len(packet).to_bytes(2, "big") + packet
 
 
 # "Rank: Test, Coupling, Normal, Priority, Emergency, lowest first."
@@ -202,10 +140,11 @@ class Bench:
 
     # -- time
 
-    def tick(self, ms):
-        # "Tick 24.": "elapsed above 1000"
-        if ms > 1000:
-            return Refused(24)
+    def tick(self, ms, timestamp, room):
+        # 02: "Refusals: 24, then 26 exactly if the buffer is under 208 bytes"; 24: "elapsed above 1000"
+        refused = first_refusal((24, lambda: ms > 1000), (26, lambda: room < 208))
+        if refused:
+            return refused
         closed, due = [], []
         for n, seat in self.seats.items():
             if seat is None:
@@ -224,7 +163,18 @@ class Bench:
                 seat.since_due %= seat.period
                 due.append(n)
         self.keep_air()
-        return TickAnswer(tuple(closed), tuple(due))
+        return TickAnswer(tuple(closed), tuple(due), self.sent(due, timestamp, room))
+
+    def sent(self, due, timestamp, room):
+        # 02: "writes the R2S report of each due seat, lowest seat first, each behind its two-byte length as in RFC 4571";
+        # "Reports show the bench after the tick's closings."
+        sent = b""
+        for n in sorted(due):
+            # "Each report goes straight into what is left of the send buffer."
+            report = self.report(n, timestamp, b"", room - len(sent) - 2)
+            assert isinstance(report, bytes), (n, room, report)
+            sent += framed(report)
+        return sent
 
     # -- radio events
 

@@ -1,10 +1,11 @@
 #!/usr/bin/env python3
-"""Measures what a report costs, and beside it an accepted packet and a tick. Not part of the gate.
+"""Measures what a report costs, and beside it an accepted packet, a tick and a tick with eight reports. Not part of the gate.
 
   tests/report_speed.py [CHECKOUT...]    of this checkout, or of those given, which are run by turns to be compared
 
 Eight seats are open, seat 1 keys Normal and seat 7 Test, and a signal is received. Reports go to each seat in turn and
-carry no audio; the packets are seat 1's, each the same but for its sequence number; a tick is 1 ms and closes no seat.
+carry no audio; the packets are seat 1's, each the same but for its sequence number; a tick is 1 ms and closes no seat, and in
+one of a thousand the seats are due. One with eight reports is 1000 ms, from the same bench each time.
 The bench lies in memory between the calls: its copy into a call and back is part of what is measured.
 
 The library is compiled at -O3 from its sources, proved or not, with the Rattle kit (`rt` on the PATH), in a temporary
@@ -32,7 +33,6 @@ RUNS = 25
 CALLS = """
 use bench::Bench;
 use bench::CallType;
-use bench::DoneAnswer;
 use bench::PacketAnswer;
 use bench::Request;
 use bench::Setup;
@@ -79,37 +79,39 @@ pub extern "C" fn one_packet(held: &mut Bench, n: u8, data: &[u8; 20]) -> u32 {
     }
 }
 
-// 1, and 0 if it is refused.
+// 1 and the bytes used, 0 if it is refused.
 #[no_mangle]
-pub extern "C" fn one_tick(held: &mut Bench, ms: u16) -> u32 {
-    let ticked = bench::tick(*held, ms);
-    *held = ticked.bench;
+pub extern "C" fn one_tick(held: &Bench, after: &mut Bench, ms: u16, timestamp: u32, out: &mut [u8; 208]) -> u32 {
+    let ticked = bench::tick(*held, ms, timestamp, out);
+    *after = ticked.bench;
     match ticked.answer {
-        DoneAnswer::Done => 1,
-        DoneAnswer::Refused(_) => 0,
+        Written::Length(used) => 1 + used as u32,
+        Written::Refused(_) => 0,
     }
 }
 """
 
-# Prints the ns of a report, of a packet and of a tick; fails where a call was refused or the last report is a wrong one.
+# Prints the ns of a report, of a packet, of a tick and of one with eight reports; fails where a call was refused or the last report
+# of either kind is a wrong one.
 LOOPS = """
 typedef unsigned char byte;
 void open_all(void *bench);
 unsigned one_report(void *bench, byte seat, unsigned timestamp, byte *out);
 unsigned one_packet(void *bench, byte seat, const byte *data);
-unsigned one_tick(void *bench, unsigned short ms);
+unsigned one_tick(const void *bench, void *after, unsigned short ms, unsigned timestamp, byte *out);
 long clock(void);  // in microseconds
 int printf(const char *format, ...);
 
-enum { REPORTS = 200000, PACKETS = 200000, TICKS = 40000, SIZE = 24 };  // silence closes the seats after 50000 ticks
+enum { REPORTS = 200000, PACKETS = 200000, TICKS = 40000, SENDS = 40000 };  // silence closes the seats after 50000 ticks
+enum { SIZE = 24, ALL = 8 * (2 + SIZE), PERIOD = 1000 };
 
-static unsigned bench[1024];  // a bench takes some 100 of these
-static byte out[SIZE];
+static unsigned bench[1024], other[1024];  // a bench takes some 100 of these
+static byte out[SIZE], sent[ALL];
 static byte normal_1[20] = {0x90, 0x7B, 0, 0, 0, 0, 0, 0, 0, 0, 0, 1, 0x01, 0x67, 0, 1, 0x20, 0x40, 0, 0};
 static byte test_7[20] = {0x90, 0x7B, 0, 0, 0, 0, 0, 0, 0, 0, 0, 7, 0x01, 0x67, 0, 1, 0xA1, 0xC0, 0, 0};
 
 int main(void) {
-    unsigned accepted = 0, written = 0, ticked = 0;
+    unsigned accepted = 0, written = 0, ticked = 0, sending = 0;
     open_all(bench);
     accepted += one_packet(bench, 7, test_7);
     long start = clock();
@@ -122,14 +124,21 @@ int main(void) {
     for (unsigned i = 0; i < REPORTS; i++)
         written += one_report(bench, 1 + i % 8, i, out);
     long told = clock();
-    for (unsigned i = 0; i < TICKS; i++)
-        ticked += one_tick(bench, 1);
+    for (unsigned i = 0; i < TICKS; i += 2) {
+        ticked += one_tick(bench, other, 1, i, sent);
+        ticked += one_tick(other, bench, 1, i, sent);
+    }
+    long passed = clock();
+    for (unsigned i = 0; i < SENDS; i++)
+        sending += one_tick(bench, other, PERIOD, i, sent);
     long end = clock();
-    if (accepted != 1 + PACKETS || written != SIZE * REPORTS || ticked != TICKS)
+    if (accepted != 1 + PACKETS || written != SIZE * REPORTS || ticked != TICKS + ALL * (TICKS / PERIOD) || sending != SENDS * (1 + ALL))
         return 1;
-    if (out[16] != 0x30 || out[17] != 0x41)  // Normal, SQU, id 1, X
+    const byte *last = sent + ALL - SIZE;
+    if (out[16] != 0x30 || out[17] != 0x41 || last[16] != 0x30 || last[17] != 0x41)  // Normal, SQU, id 1, X
         return 1;
-    printf("%f %f %f", 1e3 * (told - heard) / REPORTS, 1e3 * (heard - start) / PACKETS, 1e3 * (end - told) / TICKS);
+    printf("%f %f ", 1e3 * (told - heard) / REPORTS, 1e3 * (heard - start) / PACKETS);
+    printf("%f %f", 1e3 * (passed - told) / TICKS, 1e3 * (end - passed) / SENDS);
     return 0;
 }
 """
@@ -200,7 +209,7 @@ def compiled(kit, root, folder):
 
 
 def measured(roots):
-    """The runs of each checkout: the ns of a report, of a packet and of a tick in each."""
+    """The runs of each checkout: the ns of each call in each."""
     kit = the_kit()
     with tempfile.TemporaryDirectory() as name:
         programs = []
@@ -220,7 +229,7 @@ def main():
     for root, runs in zip(roots, measured(roots)):
         if len(roots) > 1:
             print(f"{root}:")
-        for call, told in zip(("report", "packet", "tick"), zip(*runs)):
+        for call, told in zip(("report", "packet", "tick", "tick with eight reports"), zip(*runs), strict=True):
             times = [float(word) for word in told]
             best, middle = min(times), statistics.median(times)
             print(f"{call}: {1000 / best:.1f} million a second (best of {RUNS}: {best:.0f} ns, middle {middle:.0f} ns)")

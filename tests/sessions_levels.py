@@ -1,7 +1,7 @@
 """Levels in tenths of a dBm, as 02's third request has them: where the quality steps fall. See sessions.py."""
 
 from model import NORMAL, RSSI
-from talk import SINGLE
+from talk import SINGLE, without_sequence
 
 # the level at which each quality begins; 02: "0 below -1000, 15 above -700, between them the floor of (level + 1000)/20"
 STEPS = (
@@ -46,12 +46,6 @@ def unmoved(s):
         asks(s, 32767, 15)
         after = s.say("report 1 0 - 24", f"ok len={size}")
         assert without_sequence(after) == without_sequence(before) and after != before, (before, after)
-
-
-def without_sequence(answer):
-    """`ok len=N HEX` without bytes 2 and 3 of the report."""
-    words = answer.split()
-    return words[1], words[2][:4], words[2][8:]
 
 
 def levels(s):

@@ -34,7 +34,8 @@ def wrong_calls(s):
     expects(s, "setup", "", "77 0167 pair lockout interruption", "- 10000 pair lockout interruption", "- 0 pair lockout interruption more")
     expects(s, "open", "256 txrx 200 10 0 0", "1 txrx 65536 10 0 0", "1 txrx 200 256 0 0", "1 txrx 200 10 4294967296 0", "1 txrx 200 10 0 65536")
     expects(s, "close", "", "4294967297", "1 1")
-    expects(s, "tick", "65536")
+    expects(s, "tick", "65536 0 208", "200 4294967296 208", "200 0 513")
+    s.say("tick 200", "error: expected tick MS TIMESTAMP ROOM")
     expects(s, "packet", "1 907", "1 9G")
     expects(s, "report", "1 0 - 513", "1 4294967296 - 20")
     expects(s, "received", "256 0", "1 32768", "1 -32769")
@@ -63,7 +64,9 @@ def wrong_words(s):
     expects(s, "open", *(f"{seat} txrx 200 10 0 0" for seat in ("256", "-1", "+1", "1.", "0x1", "-", "1e0", "99999999999999999999")))
     expects(s, "open", "1 txrx 65536 10 0 0", "1 txrx 200 256 0 0", "1 txrx 200 10 4294967296 0", "1 txrx 200 10 0 65536")
     expects(s, "close", "", "256", "-", "a", "1 1", "4294967297", "18446744073709551617")
-    expects(s, "tick", "", "65536", "-1", "1 1", "4294967296")
+    expects(s, "tick", "", "0", "1 1", "65536 0 208", "-1 0 208", "- 0 208", "4294967296 0 208", "0 0 208 0", "0 0 - 208", "0 - 0 208")
+    expects(s, "tick", *(f"0 {timestamp} 208" for timestamp in ("4294967296", "-1", "-", "0x0", "18446744073709551616")))
+    expects(s, "tick", *(f"0 0 {size}" for size in ("513", "65535", "65536", "65744", "4294967504", "-", "-208", "208.")))
     expects(s, "packet", "", "1", "1 9", "1 907", "1 90 7B", "1 9G", "1 0x90", "256 -", "1 - -", "1 --")
     expects(s, "report", "", "1 0 -", "1 0 - 513", "1 0 - -", "1 4294967296 - 20", "1 0 0 20", "256 0 - 20", "1 0 - 20 1", "1 0 - 65536")
     expects(s, "received", "", "1", "256 0", "-1 0", "1 32768", "1 -32769", "1 -", "1 --1", "1 +1", "1 -1 0", "1 -99999999999999999999")
@@ -89,8 +92,8 @@ def values(s):
     s.say("open 001 txrx 00200 010 4294967295 65535", "ok id=1")
     s.say("close 0000000000000000000000000000001", "ok")
     s.say("open 255 txrx 65535 255 4294967295 65535", "refused 13")
-    s.say("tick 65535", "refused 24")
-    s.say("tick 1001", "refused 24")
+    s.say("tick 65535 4294967295 512", "refused 24")
+    s.say("tick 00001001 0 00", "refused 24")
     for level, quality in (("32767", 15), ("-32768", 0), ("0", 15), ("-0", 15), ("-0850", 7)):
         s.say(f"received 255 {level}", "ok")
         s.say(f"quality {level}", f"ok quality={quality}")
@@ -123,10 +126,10 @@ def reads(s):
 
 def lengths(s):
     s.session("a line of 2,048 bytes is read whole, a longer one is not, whatever it holds")
-    s.say("tick 0".ljust(2048), "ok")
-    s.say("# tick 0".ljust(2049), "error: expected a line of at most 2048 bytes")
+    s.say("tick 0 0 208".ljust(2048), "ok")
+    s.say("# tick 0 0 208".ljust(2049), "error: expected a line of at most 2048 bytes")
     s.say("help", "write rx SEQ TS SSRC PTT SQU ID PM PTTS SCT SQI MSS AUDIO ROOM\nquality LEVEL\nair\nhelp")
-    s.say("tick 0 # the last line has no end", "ok")
+    s.say("tick 0 0 208 # the last line has no end", "ok")
 
 
 def lines(s):

@@ -53,7 +53,7 @@ def refusals(s):
     s.note("18 goes when the Coupling seat is closed, by hand or by silence")
     s.say("close 1", "ok")
     s.say("open 5 coupling 20 2 0 0", "ok id=5")
-    s.say("tick 40", "ok closed=25 due=7")
+    s.tick(40, closed="25", due="7")
     s.say("open 6 coupling 1000 2 0 0", "ok id=6")
 
     s.session("18 looks at the call type: a Coupling call that keys Normal, or nothing, still bars another")
@@ -118,12 +118,12 @@ def refusals(s):
 
     s.session("24: elapsed above 1000; time stands still")
     s.open("1", period=1000, multiplier=2)
-    s.say("tick 1001", "refused 24 cause 0")
-    s.say("tick 65535", "refused 24 cause 0")
-    s.say("tick 1000", "ok closed=- due=1")
-    s.say("tick 999", "ok closed=- due=-")
-    s.say("tick 0", "ok closed=- due=-")
-    s.say("tick 1", "ok closed=1 due=-")
+    s.say("tick 1001 0 208", "refused 24 cause 0")
+    s.say("tick 65535 0 208", "refused 24 cause 0")
+    s.tick(1000, due="1")
+    s.tick(999)
+    s.tick(0)
+    s.tick(1, closed="1")
 
     s.session("25, then 26, and neither uses up a sequence number")
     s.open("3", sequence=65534)

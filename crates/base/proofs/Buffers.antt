@@ -18,6 +18,10 @@ pub overlaid-nothing : (P : List ℕ) → overlaid P [] ≡ []
 unfolding overlaid
 overlaid-nothing P = drop-nil (length P)
 
+pub overlaid-none : (l : List ℕ) → overlaid [] l ≡ l
+unfolding overlaid
+overlaid-none l = ap (λ (r : List ℕ). r ++ l) (take-all (length l) [] (omega arith))
+
 module _ (P l : List ℕ) where
   -- where there is room, all of the bytes
   pub overlaid-fits : length P ≤ length l → overlaid P l ≡ P ++ drop (length P) l
@@ -72,6 +76,17 @@ module _ (P Q l : List ℕ) where
   overlaid-then {l₁} {v} {k} e d f =
       let none : length (drop k l₁) ≤ length l₁ - k = simp length-drop (omega arith) in
       rw (drop-of-length-le (drop k l₁) none, append-nil, f, part-to-end, d) (by-room-behind k e (leb (length P) (length l)) refl)
+
+  -- the same where the part behind the front comes first, and the front has room
+  pub overlaid-before : {l₁ v : List ℕ} {k : ℕ} → k ≡ length P → k ≤ length l → v ≡ overlaid Q (take (length l - k) (drop k l))
+      → l₁ ≡ putMid k (length l - k) l v → overlaid P l₁ ≡ overlaid (P ++ Q) l
+  overlaid-before {l₁} {v} {k} e room f d =
+      let none : length (drop k l) ≤ length l - k = simp length-drop (omega arith) in
+      let front : length (take k l) ≡ k = simp length-take (omega arith) in
+      let put : l₁ ≡ take k l ++ v = d ∙ rw (drop-of-length-le (drop k l) none, append-nil) in
+      let long : length P ≤ length l₁ = rw (put, length-append) (omega arith) in
+      let behind : v ≡ overlaid Q (drop (length P) l) = f ∙ rw (part-to-end, e) in
+      overlaid-fits P l₁ long ∙ rw (put, ← e, drop-at (take k l) v k front, behind) (both-fit (omega arith))
 
 -- bytes stored from a place on, then others behind them
 pub sets-append : (l a b : List ℕ) (i : ℕ) → sets l i (a ++ b) ≡ sets (sets l i a) (i + length a) b

@@ -6,11 +6,12 @@ use Rattle.packet.specs.Refusals.{Answer, accepted, refused, mapped}
 use Rattle.packet.proofs.Judged.{never}
 use Rattle.record.specs.Record.{withSide, withAir}
 use Rattle.seats.specs.Opening.{openSaid, openedBench, closeSaid, closedBench}
-use Rattle.seats.specs.Ticking.{tickSaid, tickSets, tickedBench}
+use Rattle.seats.specs.Ticking.{silentSeats, dueSeats, tickedBench}
 use Rattle.seats.specs.Radio.{sideSaid}
 use Rattle.air.specs.Air.{keyings, benchAir, aired}
 use Rattle.hearing.specs.Hearing.{packetSaid, heardBench, isSent, hearing, messageIn}
 use Rattle.reporting.specs.Reporting.{reportSaid, reportBytes, reportedBench}
+use Rattle.sending.specs.Sending.{records, sentBytes, sentBench, tickSaid}
 use Rattle.bench.specs.Step.{Call, opening, closing, packet, tick, report, received, transmitter, side, Said, done, own, told, ticked, written, Outcome, outcome, does, step, keeping, after}
 use Rattle.record.specs.declared.shown.Air.{Air}
 use Rattle.record.specs.declared.whole.Bench.{Bench}
@@ -33,7 +34,7 @@ unfolding does
 refused-keeps b (opening n r) k cause e = simp (was-refused (openSaid b n r) own k cause e)
 refused-keeps b (closing n) k cause e = simp (was-refused (closeSaid b n) (λ u. done) k cause e)
 refused-keeps b (packet n p) k cause e = simp (was-refused (packetSaid b n p) (told (packetSaid b n p) p) k cause e)
-refused-keeps b (tick ms) k cause e = simp (was-refused (tickSaid ms) _ k cause e)
+refused-keeps b (tick ms timestamp room) k cause e = simp (was-refused (tickSaid b ms timestamp room) _ k cause e)
 refused-keeps b (report n timestamp sound room) k cause e = simp (was-refused (reportSaid b n timestamp sound room) _ k cause e)
 refused-keeps b (received signals level) k cause e = absurd (never done k cause e)
 refused-keeps b (transmitter healthy) k cause e = absurd (never done k cause e)
@@ -60,9 +61,9 @@ module _ (shown kept f : Bench → Bench) (b : Bench) (air : Air) (sees : shown 
   but-for-air (packet n p) =
       unfold packetSaid heardBench hearing isSent in
       settles (packetSaid b n p) (told (packetSaid b n p) p) (heardBench b n (messageIn p)) (keeps _)
-  but-for-air (tick ms) =
-      unfold tickSets tickedBench in
-      settles (tickSaid ms) (λ u. ticked (tickSets b ms .closed) (tickSets b ms .due)) (tickedBench b ms) (keeps _)
+  but-for-air (tick ms timestamp room) =
+      unfold tickSaid sentBytes records tickedBench sentBench in
+      settles (tickSaid b ms timestamp room) (λ used. ticked (silentSeats b ms) (dueSeats b ms) (records b ms timestamp)) (sentBench b ms) (keeps _)
   but-for-air (report n timestamp sound room) =
       rw sees
       (unfold reportedBench in

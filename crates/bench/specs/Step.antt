@@ -1,4 +1,4 @@
--- Every call of 01 as one type, and what each does as one definition: the answer, and the bench after it.
+-- Every call of 01 as one type, with 02's tick, and what each does as one definition: the answer, and the bench after it.
 use Prim.Native.Nat.{ℕ}
 use mathlib.Core.Bool.{Bool, true, false, cond}
 use mathlib.Core.List.{List, [], _∷_}
@@ -7,10 +7,11 @@ use Rattle.packet.specs.Refusals.{Answer, accepted, refused, mapped}
 use Rattle.record.specs.Record.{settled, withSignals, withHealth, withSide}
 use Rattle.air.specs.Air.{aired}
 use Rattle.seats.specs.Opening.{openSaid, openedBench, closeSaid, closedBench}
-use Rattle.seats.specs.Ticking.{tickSaid, tickSets, tickedBench}
+use Rattle.seats.specs.Ticking.{silentSeats, dueSeats}
 use Rattle.seats.specs.Radio.{sideSaid}
 use Rattle.hearing.specs.Hearing.{packetSaid, heardBench, messageIn, audioIn}
 use Rattle.reporting.specs.Reporting.{reportSaid, reportBytes, reportedBench}
+use Rattle.sending.specs.Sending.{records, sentBench, tickSaid}
 use Rattle.record.specs.declared.whole.Bench.{Bench}
 use Rattle.seats.specs.declared.opening.Request.{Request}
 use Rattle.hearing.specs.declared.hearing.Hearing.{Hearing}
@@ -19,18 +20,18 @@ pub data Call : Type 0 where
   opening : (n : ℕ) → Request → Call
   closing : (n : ℕ) → Call
   packet : (n : ℕ) → (bytes : List ℕ) → Call
-  tick : (ms : ℕ) → Call
+  tick : (ms timestamp room : ℕ) → Call
   report : (n timestamp : ℕ) → (audio : List ℕ) → (room : ℕ) → Call
   received : (signals : ℕ) → (level : ℤ) → Call
   transmitter : (healthy : Bool) → Call
   side : (standby : Bool) → Call
 
--- What a call tells when it is not refused.
+-- What a call tells when it is not refused. Of a tick the bytes used are not here: they are those of the records (StepOfCode).
 pub data Said : Type 0 where
   done : Said
   own : (id : ℕ) → Said
   heard : (missing : ℕ) (reply standby : Bool) (audio : List ℕ) → Said
-  ticked : (closed due : List Bool) → Said
+  ticked : (closed due : List Bool) (records : List (List ℕ)) → Said
   written : (bytes : List ℕ) → Said
 
 pub record Outcome : Type 0 where
@@ -47,12 +48,14 @@ told answer p h = heard (h .missing) (h .reply) (h .standby) (audioIn answer p)
 abbrev pub Machine : Type 0
 Machine = Bench → Call → Outcome
 
--- What each call does, where a report reads the bench as `shown` has it, and every other accepted call leaves it as `kept` has it.
+-- What each call does, where a report reads the bench as `shown` has it, and every other accepted call leaves it as `kept` has it. (A
+-- tick's own reports read the bench that it closed seats of, with its air made right, in every machine.)
 unfoldable pub does : (shown kept : Bench → Bench) → Machine
 does shown kept b (opening n r) = outcome (openSaid b n r) own b (kept (openedBench b n r))
 does shown kept b (closing n) = outcome (closeSaid b n) (λ u. done) b (kept (closedBench b n))
 does shown kept b (packet n p) = outcome (packetSaid b n p) (told (packetSaid b n p) p) b (kept (heardBench b n (messageIn p)))
-does shown kept b (tick ms) = outcome (tickSaid ms) (λ u. ticked (tickSets b ms .closed) (tickSets b ms .due)) b (kept (tickedBench b ms))
+does shown kept b (tick ms timestamp room) =
+    outcome (tickSaid b ms timestamp room) (λ used. ticked (silentSeats b ms) (dueSeats b ms) (records b ms timestamp)) b (kept (sentBench b ms))
 does shown kept b (report n timestamp sound room) =
     outcome (reportSaid (shown b) n timestamp sound room) (λ k. written (reportBytes (shown b) n timestamp sound)) b (reportedBench b n)
 does shown kept b (received signals level) = record { answer = accepted done; bench = kept (withSignals b signals level) }

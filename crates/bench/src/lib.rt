@@ -1,5 +1,5 @@
 // The bench of document 01: every call in one place, from the crates that make them. Seats and events: `seats`; a packet:
-// `hearing`; a report: `reporting`; who is on the air: `air`, kept in the record: `record`.
+// `hearing`; a report: `reporting`; a tick with its reports: `sending`; who is on the air: `air`, kept in the record: `record`.
 // specs/Step.antt has every call as one definition; proofs/Keeping.antt, that keeping the air changes no answer.
 pub use air::aired;
 pub use hearing::Hearing;
@@ -18,12 +18,12 @@ pub use seats::DoneAnswer;
 pub use seats::OpenAnswer;
 pub use seats::Opened;
 pub use seats::Request;
-pub use seats::SeatSets;
-pub use seats::Ticked;
 pub use seats::close;
 pub use seats::open;
 pub use seats::received;
 pub use seats::side;
 pub use seats::silence_cause;
-pub use seats::tick;
 pub use seats::transmitter;
+pub use sending::SeatSets;
+pub use sending::Ticked;
+pub use sending::tick;

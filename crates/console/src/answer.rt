@@ -41,7 +41,11 @@ pub fn answer(b: Bench, call: Call, s: &[u8], bytes: &[u8], out: &mut [u8]) -> S
         Call::Setup(setup) => told(fresh(setup), ok(out)),
         Call::Open { seat, request } => open(b, seat, request, out),
         Call::Close(seat) => close(b, seat, out),
-        Call::Tick(ms) => tick(b, ms, out),
+        Call::Tick {
+            ms,
+            timestamp,
+            room,
+        } => tick(b, ms, timestamp, room, out),
         Call::Packet { seat, count } => hear(b, seat, part(bytes, 0, count), out),
         Call::Report {
             seat,
@@ -79,7 +83,7 @@ fn line(b: Bench, call: Call, s: &[u8], bytes: &[u8], out: &mut [u8]) -> usize {
         | Call::Setup(_)
         | Call::Open { .. }
         | Call::Close(_)
-        | Call::Tick(_)
+        | Call::Tick { .. }
         | Call::Packet { .. }
         | Call::Report { .. }
         | Call::Received { .. }
@@ -144,15 +148,14 @@ fn close(b: Bench, seat: u8, out: &mut [u8]) -> Said {
     told(bench, done(answer, out))
 }
 
-fn tick(b: Bench, ms: u16, out: &mut [u8]) -> Said {
-    let ticked = bench::tick(b, ms);
+fn tick(b: Bench, ms: u16, timestamp: u32, room: usize, out: &mut [u8]) -> Said {
+    let room = least(room, ROOM);
+    let mut buffer = [0u8; ROOM];
+    let ticked = bench::tick(b, ms, timestamp, &mut buffer[0..room]);
     let bench = ticked.bench;
     let answer = ticked.answer;
     let sets = ticked.seats;
-    match answer {
-        DoneAnswer::Refused(r) => told(bench, refused(out, r)),
-        DoneAnswer::Done => told(bench, ticked_line(out, sets)),
-    }
+    told(bench, ticked_line(out, answer, sets, &buffer))
 }
 
 fn hear(b: Bench, seat: u8, p: &[u8], out: &mut [u8]) -> Said {

@@ -22,13 +22,21 @@ pub fn refused(out: &mut [u8], r: Refusal) -> usize {
     refusal_line(out, r)
 }
 
-pub fn ticked_line(out: &mut [u8], sets: SeatSets) -> usize {
-    let closed = sets.closed;
-    let due = sets.due;
-    let at = put(out, 0, b"ok closed=");
-    let at = put_seats(out, at, closed);
-    let at = put(out, at, b" due=");
-    put_seats(out, at, due)
+// The reports lie at the front of the buffer, each behind its length.
+pub fn ticked_line(out: &mut [u8], answer: Written, sets: SeatSets, buffer: &[u8; ROOM]) -> usize {
+    match answer {
+        Written::Refused(r) => refused(out, r),
+        Written::Length(used) => {
+            let closed = sets.closed;
+            let due = sets.due;
+            let at = put(out, 0, b"ok closed=");
+            let at = put_seats(out, at, closed);
+            let at = put(out, at, b" due=");
+            let at = put_seats(out, at, due);
+            let at = put(out, at, b" used=");
+            put_front(out, at, used, buffer)
+        }
+    }
 }
 
 pub fn heard_line(out: &mut [u8], h: Hearing, audio: &[u8]) -> usize {
@@ -60,11 +68,16 @@ pub fn written_line(out: &mut [u8], written: Written, buffer: &[u8; ROOM]) -> us
         Written::Refused(r) => refused(out, r),
         Written::Length(n) => {
             let at = put(out, 0, b"ok len=");
-            let at = put_number(out, at, n as u64);
-            let at = put(out, at, b" ");
-            put_bytes(out, at, part(buffer, 0, n))
+            put_front(out, at, n, buffer)
         }
     }
+}
+
+// How many bytes there are, and these bytes, which lie at the front of the buffer.
+fn put_front(out: &mut [u8], at: usize, n: usize, buffer: &[u8; ROOM]) -> usize {
+    let at = put_number(out, at, n as u64);
+    let at = put(out, at, b" ");
+    put_bytes(out, at, part(buffer, 0, n))
 }
 
 fn put_side(out: &mut [u8], at: usize, standby: bool) -> usize {

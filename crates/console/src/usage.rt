@@ -19,7 +19,7 @@ fn usage(out: &mut [u8], at: usize, call: usize) -> usize {
             b"open SEAT idle|rxonly|txrx|coupling PERIOD MULTIPLIER SSRC SEQUENCE",
         ),
         2 => put(out, at, b"close SEAT"),
-        3 => put(out, at, b"tick MS"),
+        3 => put(out, at, b"tick MS TIMESTAMP ROOM"),
         4 => put(out, at, b"packet SEAT HEX"),
         5 => put(out, at, b"report SEAT TIMESTAMP AUDIO ROOM"),
         6 => put(out, at, b"received COUNT LEVEL"),

@@ -9,6 +9,7 @@ pub mod BenchAir
 pub mod SentAudio
 pub mod LiveCalls
 pub mod LiveReports
+pub mod LiveTicks
 pub mod LivePackets
 pub mod Apart
 pub mod LessonsSeen

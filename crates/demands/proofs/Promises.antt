@@ -1,3 +1,4 @@
 -- The code does what the definitions say, and its promises leave one answer. In the order in which they build on each other.
+pub mod ReadBack
 pub mod StepOfCode
 pub mod Tight

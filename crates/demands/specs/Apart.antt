@@ -23,7 +23,7 @@ named (opening n r) = n
 named (closing n) = n
 named (packet n p) = n
 named (report n timestamp sound room) = n
-named (tick ms) = 0
+named (tick ms timestamp room) = 0
 named (received signals level) = 0
 named (transmitter healthy) = 0
 named (side standby) = 0
@@ -47,18 +47,27 @@ blotted r =
     let f = number16 r 16 in
     take 16 r ++ bytes16 (f - placed 16 0 3 (pttType f) - placed 16 4 6 (pttId f) - placed 16 11 1 (ptts f)) ++ drop 18 r
 
+-- Of a report "While .." its bytes, "At other times" these blotted.
+abbrev pub asSeen : (while : Bool) → (bytes : List ℕ) → List ℕ
+asSeen while bytes = cond while bytes (blotted bytes)
+
 -- a tick's flags, of live seats only
 unfoldable pub amongLive : Setup → List Bool → List Bool
 amongLive setup flags = map (λ n. not (lesson setup n) && getD flags (n - 1) false) seatNumbers
 
--- What of an answer has to be the same. Of a report "While .." its bytes, "At other times" these blotted; of "All other
--- answers" everything, but at other times not the audio of a seat that keys Test.
+-- and its records: 02, request 6: "Under demand 3 each live seat's record is compared by itself", as a report is. Those of lesson seats
+-- may come and go, and with them the bytes used.
+unfoldable pub recordsSeen : Setup → (while : Bool) → (records : List (List ℕ)) → List (List ℕ)
+recordsSeen setup while records = map (λ n. cond (lesson setup n) [] (asSeen while (getD records (n - 1) []))) seatNumbers
+
+-- What of an answer has to be the same: of reports what is said above, of "All other answers" everything, but at other times not the
+-- audio of a seat that keys Test.
 unfoldable pub fixed : Setup → (while keysTest : Bool) → Said → Said
 fixed setup while keysTest done = done
 fixed setup while keysTest (own id) = own id
 fixed setup while keysTest (heard missing reply standby sound) = heard missing reply standby (cond (keysTest && not while) [] sound)
-fixed setup while keysTest (ticked closed due) = ticked (amongLive setup closed) (amongLive setup due)
-fixed setup while keysTest (written bytes) = written (cond while bytes (blotted bytes))
+fixed setup while keysTest (ticked closed due records) = ticked (amongLive setup closed) (amongLive setup due) (recordsSeen setup while records)
+fixed setup while keysTest (written bytes) = written (asSeen while bytes)
 
 unfoldable pub compared : Setup → Call → Outcome → Answer Said
 compared setup c o = mapped (fixed setup (liveAboveTest (o .bench) seatNumbers) (eqb (pttOf (o .bench) (named c)) test)) (o .answer)

@@ -56,9 +56,9 @@ closeOrder = 13 ∷ 14 ∷ []
 abbrev pub reportOrder : List ℕ
 reportOrder = 13 ∷ 14 ∷ 25 ∷ 26 ∷ []
 
--- "Tick 24."
+-- 02, request 6: "Refusals: 24, then 26"
 abbrev pub tickOrder : List ℕ
-tickOrder = 24 ∷ []
+tickOrder = 24 ∷ 26 ∷ []
 
 -- "Side event 23; the other events are never refused."
 abbrev pub sideOrder : List ℕ
@@ -82,7 +82,7 @@ pub record Orders : Type 0 where
   pub of-open : (b : Bench) (n : ℕ) (r : Request) → numbers (refusalsOf b (opening n r)) ≡ openOrder
   pub of-close : (b : Bench) (n : ℕ) → numbers (refusalsOf b (closing n)) ≡ closeOrder
   pub of-report : (b : Bench) (n timestamp : ℕ) (sound : List ℕ) (room : ℕ) → numbers (refusalsOf b (report n timestamp sound room)) ≡ reportOrder
-  pub of-tick : (b : Bench) (ms : ℕ) → numbers (refusalsOf b (tick ms)) ≡ tickOrder
+  pub of-tick : (b : Bench) (ms timestamp room : ℕ) → numbers (refusalsOf b (tick ms timestamp room)) ≡ tickOrder
   pub of-side : (b : Bench) (standby : Bool) → numbers (refusalsOf b (side standby)) ≡ sideOrder
   pub of-received : (b : Bench) (signals : ℕ) (level : ℤ) → numbers (refusalsOf b (received signals level)) ≡ []
   pub of-transmitter : (b : Bench) (healthy : Bool) → numbers (refusalsOf b (transmitter healthy)) ≡ []

@@ -79,7 +79,7 @@ abbrev pub InRange : Call → Type 0
 InRange (opening n r) = (r .ssrc < 4294967296) × (r .sequence < 65536)
 InRange (closing n) = Unit {0}
 InRange (packet n p) = Bytes p
-InRange (tick ms) = Unit {0}
+InRange (tick ms timestamp room) = Unit {0}
 InRange (report n timestamp sound room) = Unit {0}
 InRange (received signals level) = Unit {0}
 InRange (transmitter healthy) = Unit {0}

@@ -4,7 +4,7 @@ use Prim.Native.Nat.{ℕ}
 use mathlib.Core.Path.{_≡_}
 use mathlib.Core.Bool.{Bool, true, false}
 use mathlib.Core.List.{List, [], _∷_}
-use lib.ListN.{replicate}
+use lib.ListN.{drop, replicate}
 use Rattle.packet.specs.Packet.{normal, test}
 use Rattle.packet.specs.Refusals.{Answer, accepted}
 use Rattle.writer.specs.Writing.{fromTx, encode}
@@ -58,6 +58,10 @@ keysPtts n ptt sequence = packet n (encode 0x0167 (fromTx (keying n ptt sequence
 
 abbrev pub asked : (n : ℕ) → Call
 asked n = report n 0 [] 20
+
+-- a report while nobody is on the air and no signal is received
+abbrev pub quietReport : (sequence : ℕ) → List ℕ
+quietReport sequence = 0x90 ∷ 0x7B ∷ 0 ∷ sequence ∷ drop 4 (around (0 ∷ 0 ∷ 0 ∷ 0 ∷ []))
 
 abbrev pub withLesson : List Call
 withLesson = enters 1 ∷ enters 8 ∷ keys 8 test 1 ∷ []

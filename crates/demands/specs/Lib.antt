@@ -15,9 +15,11 @@ pub mod Kept
 pub mod AirKept
 pub mod AnswersStay
 pub mod TicksAddUp
+pub mod AsSingles
 pub mod Apart
 pub mod LessonsSeen
 pub mod OneDifference
+pub mod Room
 pub mod Undisturbed
 pub mod WrongBenches
 pub mod Tight

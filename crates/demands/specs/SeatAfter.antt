@@ -21,7 +21,7 @@ abbrev pub seatAfter : Call → (n : ℕ) → Seat → Seat
 seatAfter (opening m r) n s = cond (eqb n m) (openedSeat (callCode (r .call)) (r .period) (r .multiplier) (r .ssrc)) s
 seatAfter (closing m) n s = cond (eqb n m) closedSeat s
 seatAfter (packet m p) n s = cond (eqb n m) (heardSeat s (messageIn p)) s
-seatAfter (tick ms) n s = tickedSeat ms s
+seatAfter (tick ms timestamp room) n s = tickedSeat ms s
 seatAfter (report m timestamp sound room) n s = s
 seatAfter (received signals level) n s = s
 seatAfter (transmitter healthy) n s = s

@@ -2,21 +2,24 @@
 -- code does what these say, so that they are theorems on the code. A promise is the `ensures` in the code, as in Tight.
 use Prim.Native.Nat.{ℕ}
 use mathlib.Core.Path.{_≡_}
-use mathlib.Core.List.{List}
+use mathlib.Core.Bool.{Bool, true, false}
+use mathlib.Core.List.{List, [], _∷_}
 use denote.Ref.{now}
 use lib.ListN.{length, take}
 use Rattle.packet.specs.Refusals.{Answer, accepted, mapped}
 use Rattle.packet.specs.Packet.{payload}
+use Rattle.framing.specs.Framing.{packetRead, restRead}
 use Rattle.reader.specs.Reading.{readTx, readRx, txAnswer, rxAnswer}
 use Rattle.writer.specs.Writing.{fromTx, fromRx, write, buffered, put, afterPut, writtenAnswer}
 use Rattle.record.specs.Record.{freshBench}
 use Rattle.seats.specs.Answers.{openAnswer, doneAnswer}
 use Rattle.hearing.specs.Hearing.{audioIn}
 use Rattle.reporting.specs.Reporting.{reportBuffer}
+use Rattle.sending.specs.Sending.{tickSets, tickBuffer}
 use Rattle.hearing.specs.Answers.{packetAnswer}
 use Rattle.bench.specs.Step.{opening, closing, packet, tick, report, received, transmitter, side, Said, done, own, heard, ticked, written, Outcome, keeping}
 use Rattle.record.specs.declared.whole.Bench.{Bench}
-use Rattle.seats.specs.declared.ticking.SeatSets.{SeatSets}
+use Rattle.sending.specs.declared.sending.SeatSets.{SeatSets}
 use Rattle.hearing.specs.declared.hearing.Hearing.{Hearing}
 use Rattle.reader.proofs as reader
 use Rattle.writer.proofs as writer
@@ -24,6 +27,7 @@ use Rattle.record.proofs as the-record
 use Rattle.seats.proofs as seats
 use Rattle.hearing.proofs as hearing
 use Rattle.reporting.proofs as reporting
+use Rattle.sending.proofs as sending
 
 -- What holds of every result that a promise allows: of the arguments, the result and the parameters at exit.
 abbrev pub Gives : {K : Type 0} {A R E : K → Type 0} → (promise claim : (k : K) → A k → R k → E k → Type 0) → Type 0
@@ -37,15 +41,21 @@ did answer bench = record { answer = answer; bench = bench }
 abbrev pub wasDone : Unit {0} → Said
 wasDone u = done
 
-abbrev pub tickedSets : SeatSets → Unit {0} → Said
-tickedSets sets u = ticked (sets .closed) (sets .due)
-
 abbrev pub heardWith : (sound : List ℕ) → Hearing → Said
 heardWith sound h = heard (h .missing) (h .reply) (h .standby) sound
 
 -- a report is the front of the buffer that was lent, as long as the answer says
 abbrev pub inFront : (left : List ℕ) → (long : ℕ) → Said
 inFront left long = written (take long left)
+
+-- The records of a tick are read back from the bytes used, frame after frame, along the seats that are due.
+unfoldable pub readBack : (due : List Bool) → (bytes : List ℕ) → List (List ℕ)
+readBack [] bytes = []
+readBack (true ∷ ds) bytes = packetRead bytes ∷ readBack ds (restRead bytes)
+readBack (false ∷ ds) bytes = [] ∷ readBack ds bytes
+
+abbrev pub sentIn : SeatSets → (left : List ℕ) → (used : ℕ) → Said
+sentIn sets left used = ticked (sets .closed) (sets .due) (readBack (sets .due) (take used left))
 
 pub record StepOfCode : Type 1 where
   -- the readers and the writers
@@ -68,8 +78,11 @@ pub record StepOfCode : Type 1 where
   pub hears : Gives hearing.packet.Reads.Learnt (λ k (b, (n, (p, end))) r e.
       did (mapped (heardWith (audioIn (packetAnswer (r .answer)) (now p))) (packetAnswer (r .answer))) (r .bench) ≡ keeping b (packet n (now p)))
   pub hands-out : Gives hearing.audio.Reads.Learnt (λ k (answer, (p, end)) sound e. now sound ≡ audioIn (packetAnswer answer) (now p))
-  pub ticks : Gives seats.tick.Reads.Learnt
-      (λ k (b, (ms, end)) r e. did (mapped (tickedSets (r .seats)) (doneAnswer (r .answer))) (r .bench) ≡ keeping b (tick ms))
+  pub ticks : Gives sending.tick.Reads.Learnt (λ k (b, (ms, (timestamp, (out, end)))) r e.
+      did (mapped (sentIn (r .seats) (now (e .1 .1 .1 .0))) (writtenAnswer (r .answer))) (r .bench) ≡ keeping b (tick ms timestamp (length (now out))))
+  -- "bytes past those stay", and all of them where it is refused, which names no seat
+  pub sends : Gives sending.tick.Reads.Learnt (λ k (b, (ms, (timestamp, (out, end)))) r e.
+      (now (e .1 .1 .1 .0) ≡ tickBuffer b ms timestamp (now out)) × (r .seats ≡ tickSets b ms timestamp (length (now out))))
   pub reports : Gives reporting.report.Reads.Learnt (λ k (b, (n, (timestamp, (audio, (out, end))))) r e.
       did (mapped (inFront (now (e .1 .1 .1 .1 .0))) (writtenAnswer (r .answer))) (r .bench)
       ≡ keeping b (report n timestamp (now audio) (length (now out))))

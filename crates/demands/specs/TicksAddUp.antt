@@ -1,20 +1,35 @@
 -- 02, request 4: "The timer card sometimes merges two ticks. Prove it does no harm: for a + b at most 1000, ticking a then b leaves
 -- the same bench as ticking a + b. The closed seats are the same taken together, and so are the due seats among those still open.
--- A tick of 0 changes nothing. A seat that was due in the first and closed in the second is the one difference; say so."
+-- A tick of 0 changes nothing. A seat that was due in the first and closed in the second is the one difference; say so." And request 6:
+-- "Request 4 then holds for all but the report sequence numbers, which may run further after two ticks."
 use Prim.Native.Nat.{ℕ, _+_, _-_, _≤_, _<_}
 use mathlib.Core.Path.{_≡_}
 use mathlib.Core.Bool.{Bool, true, false, not, _&&_, _||_}
 use mathlib.Core.List.{List, [], _∷_, map}
 use mathlib.Core.Logic.{_↔_}
-use lib.ListN.{length, getD}
+use lib.Dec.{ltb}
+use lib.ListN.{length, getD, replicate}
 use Rattle.base.specs.Lists.{howMany}
 use Rattle.packet.specs.Refusals.{accepted}
-use Rattle.record.specs.Record.{noSuchSeat, seatOf}
-use Rattle.seats.specs.Ticking.{longestTick, tooLong, noSeats, tickSets}
-use Rattle.bench.specs.Step.{tick, ticked, keeping, after}
+use Rattle.record.specs.Record.{noSuchSeat, seatOf, withSequences}
+use Rattle.seats.specs.Ticking.{silentSeats, dueSeats}
+use Rattle.sending.specs.Sending.{tooLong, mostSent, records, reportedTo, noSeats, tickBuffer, runsFurther}
+use Rattle.bench.specs.Step.{Call, tick, ticked, keeping, after}
 use Rattle.record.specs.declared.whole.Bench.{Bench}
 use Rattle.demands.specs.Kept.{Kept}
 use Rattle.demands.specs.AirKept.{AirRight}
+
+-- A tick as it is called; and whether it is refused, which no bench decides.
+pub record Tick : Type 0 where
+  pub ms : ℕ
+  pub timestamp : ℕ
+  pub room : ℕ
+
+abbrev pub called : Tick → Call
+called t = tick (t .ms) (t .timestamp) (t .room)
+
+abbrev pub isRefused : Tick → Bool
+isRefused t = tooLong (t .ms) || ltb (t .room) mostSent
 
 -- What is told of one seat, by the first tick (₁), by the second (₂) and by the merged one; and whether it is open afterwards.
 pub record ToldAlike (closed₁ closed₂ closed due₁ due₂ due isOpen : Bool) : Type 0 where
@@ -30,33 +45,42 @@ pub record ToldAlike (closed₁ closed₂ closed due₁ due₂ due isOpen : Bool
 unfoldable pub isIn : (set : List Bool) (n : ℕ) → Bool
 isIn set n = not (noSuchSeat n) && getD set (n - 1) false
 
--- A tick of x and then one of y, and the merged one: the same bench in every field, and the same told but for the one difference.
-pub record MayMerge (b : Bench) (x y : ℕ) : Type 0 where
-  pub bench : after keeping b (tick x ∷ tick y ∷ []) ≡ after keeping b (tick (x + y) ∷ [])
+-- Two ticks, and the merged one: the same bench in every field but the report sequence numbers, of which those that run further
+-- (runsFurther) are one further, as if one report more had been written; and the same told but for the one difference.
+pub record MayMerge (b : Bench) (first second merged : Tick) : Type 0 where
+  pub bench : after keeping b (called first ∷ called second ∷ [])
+      ≡ reportedTo (map (runsFurther (first .ms) (second .ms)) (b .seats)) (after keeping b (called merged ∷ []))
   pub seats : (n : ℕ) →
-      let first = tickSets b x in
-      let second = tickSets (after keeping b (tick x ∷ [])) y in
-      let merged = tickSets b (x + y) in
-      ToldAlike (isIn (first .closed) n) (isIn (second .closed) n) (isIn (merged .closed) n)
-      (isIn (first .due) n) (isIn (second .due) n) (isIn (merged .due) n) (seatOf (after keeping b (tick (x + y) ∷ []) .seats) n .opened)
+      let then = after keeping b (called first ∷ []) in
+      ToldAlike (isIn (silentSeats b (first .ms)) n) (isIn (silentSeats then (second .ms)) n) (isIn (silentSeats b (merged .ms)) n)
+      (isIn (dueSeats b (first .ms)) n) (isIn (dueSeats then (second .ms)) n) (isIn (dueSeats b (merged .ms)) n)
+      (seatOf (after keeping b (called merged ∷ []) .seats) n .opened)
 
-unfoldable pub time : List ℕ → ℕ
+unfoldable pub time : List Tick → ℕ
 time [] = 0
-time (ms ∷ more) = ms + time more
+time (t ∷ more) = t .ms + time more
 
-abbrev pub ZeroChangesNothing : Bench → Type 0
-ZeroChangesNothing b = keeping b (tick 0) ≡ record { answer = accepted (ticked (noSeats .closed) (noSeats .due)); bench = b }
+abbrev pub butNumbers : Bench → Bench
+butNumbers b = withSequences b []
+
+-- Nobody is named, nothing is sent, and the bench is as it was, its numbers too.
+pub record ZeroChangesNothing (b : Bench) (timestamp : ℕ) (buffer : List ℕ) : Type 0 where
+  pub outcome : keeping b (tick 0 timestamp (length buffer))
+      ≡ record { answer = accepted (ticked (noSeats .closed) (noSeats .due) (replicate 8 [])); bench = b }
+  pub bytes : tickBuffer b 0 timestamp buffer ≡ buffer
 
 pub record TicksAddUp : Type 0 where
-  -- Of any bench, whatever it holds: what a tick of at most 1000 ms answers, and that two of them may be merged.
-  pub told : (b : Bench) (ms : ℕ) → ms ≤ longestTick → keeping b (tick ms) .answer ≡ accepted (ticked (tickSets b ms .closed) (tickSets b ms .due))
-  pub two-ticks : (b : Bench) (x y : ℕ) → x + y ≤ longestTick → MayMerge b x y
-  -- Runs of ticks that take the same time, each of some ticks and none above 1000 ms, leave the same bench: merge at will.
-  pub same-time : (b : Bench) (x y : ℕ) (xs ys : List ℕ) → howMany tooLong (x ∷ xs) ≡ 0 → howMany tooLong (y ∷ ys) ≡ 0
-      → time (x ∷ xs) ≡ time (y ∷ ys) → after keeping b (map tick (x ∷ xs)) ≡ after keeping b (map tick (y ∷ ys))
+  -- Of any bench, whatever it holds: what a tick answers that is not refused, and that two of them may be merged.
+  pub told : (b : Bench) (t : Tick) → isRefused t ≡ false
+      → keeping b (called t) .answer ≡ accepted (ticked (silentSeats b (t .ms)) (dueSeats b (t .ms)) (records b (t .ms) (t .timestamp)))
+  pub two-ticks : (b : Bench) (first second merged : Tick) → howMany isRefused (first ∷ second ∷ merged ∷ []) ≡ 0
+      → first .ms + second .ms ≡ merged .ms → MayMerge b first second merged
+  -- Runs of ticks that take the same time, each of some ticks and none refused, leave the same bench but for those numbers: merge at will.
+  pub same-time : (b : Bench) (x y : Tick) (xs ys : List Tick) → howMany isRefused (x ∷ xs) ≡ 0 → howMany isRefused (y ∷ ys) ≡ 0
+      → time (x ∷ xs) ≡ time (y ∷ ys) → butNumbers (after keeping b (map called (x ∷ xs))) ≡ butNumbers (after keeping b (map called (y ∷ ys)))
   -- Of every bench that calls lead to (Kept, AirKept). Of any other, with eight seats, exactly if the air in the record is right and each
   -- open seat has time left and a phase below its period.
-  pub zero : (b : Bench) → Kept b → AirRight b → ZeroChangesNothing b
-  pub zero-exactly : (b : Bench) → length (b .seats) ≡ 8
-      → ZeroChangesNothing b
+  pub zero : (b : Bench) → Kept b → AirRight b → (timestamp : ℕ) (buffer : List ℕ) → mostSent ≤ length buffer → ZeroChangesNothing b timestamp buffer
+  pub zero-exactly : (b : Bench) → length (b .seats) ≡ 8 → (timestamp : ℕ) (buffer : List ℕ) → mostSent ≤ length buffer
+      → ZeroChangesNothing b timestamp buffer
       ↔ (AirRight b × ((n : ℕ) → let s = seatOf (b .seats) n in s .opened ≡ true → (1 ≤ s .left) × (s .phase < s .period)))

@@ -15,7 +15,9 @@ use Rattle.seats.proofs as seats
 use Rattle.air.proofs as air
 use Rattle.items.proofs as items
 use Rattle.hearing.proofs as hearing
+use Rattle.framing.proofs as framing
 use Rattle.reporting.proofs as reporting
+use Rattle.sending.proofs as sending
 use Rattle.text.proofs as text
 use Rattle.words.proofs as words
 use Rattle.show.proofs as show
@@ -91,8 +93,10 @@ pub record TightSeats : Type 1 where
   pub received : OneResult seats.received.Reads.Learnt
   pub transmitter : OneResult seats.transmitter.Reads.Learnt
   pub side : OneResult seats.side.Reads.Learnt
-  pub tick : OneResult seats.tick.Reads.Learnt
   pub silence-cause : OneResult seats.silence_cause.Reads.Learnt
+  pub silent-seats : OneResult seats.silent_seats.Reads.Learnt
+  pub due-seats : OneResult seats.due_seats.Reads.Learnt
+  pub ticked-bench : OneResult seats.ticked_bench.Reads.Learnt
 
 pub record TightAir : Type 1 where
   pub keyed : OneResult air.air.keyed.Reads.Learnt
@@ -104,8 +108,16 @@ pub record TightHearing : Type 1 where
   pub packet : OneResult hearing.packet.Reads.Learnt
   pub audio : OnePart hearing.audio.Reads.Learnt
 
+pub record TightFraming : Type 1 where
+  pub put-length : OneResultAndBuffer framing.put_length.Reads.Learnt (λ k e. e .1 .0)
+
 pub record TightReporting : Type 1 where
   pub report : OneResultAndBuffer reporting.report.Reads.Learnt (λ k e. e .1 .1 .1 .1 .0)
+  pub report-of : OneResult reporting.report_of.Reads.Learnt
+  pub next-sequence : OneResult reporting.next_sequence.Reads.Learnt
+
+pub record TightSending : Type 1 where
+  pub tick : OneResultAndBuffer sending.tick.Reads.Learnt (λ k e. e .1 .1 .1 .0)
 
 pub record TightText : Type 1 where
   pub put-byte : OneResultAndBuffer text.put_byte.Reads.Learnt (λ k e. e .0)
@@ -141,7 +153,7 @@ pub record TightGrammar : Type 1 where
   pub named : OneResult grammar.named.Reads.Learnt
   pub parsed : OneResultAndBuffer grammar.parsed.Reads.Learnt (λ k e. e .1 .0)
 
--- All 75.
+-- All 82.
 pub record Tight : Type 1 where
   pub base : TightBase
   pub packet : TightPacket
@@ -152,7 +164,9 @@ pub record Tight : Type 1 where
   pub seats : TightSeats
   pub air : TightAir
   pub hearing : TightHearing
+  pub framing : TightFraming
   pub reporting : TightReporting
+  pub sending : TightSending
   pub text : TightText
   pub words : TightWords
   pub show : TightShow

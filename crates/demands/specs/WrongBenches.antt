@@ -5,17 +5,15 @@
 use Prim.Native.Nat.{ℕ}
 use mathlib.Core.Path.{_≡_}
 use mathlib.Core.Bool.{Bool, true, false, cond}
-use mathlib.Core.List.{List, [], _∷_}
-use lib.ListN.{drop}
+use mathlib.Core.List.{List, [], _∷_, map}
 use Rattle.packet.specs.Packet.{off, normal}
 use Rattle.packet.specs.Refusals.{Answer, accepted, refused, mapped}
 use Rattle.record.specs.Record.{seatOf, freshBench}
 use Rattle.bench.specs.Step.{Call, opening, closing, packet, tick, report, received, transmitter, side, Said, done, own, heard, ticked, written, Outcome, Machine, keeping, after}
 use Rattle.record.specs.declared.setup.Setup.{Setup}
 use Rattle.record.specs.declared.whole.Bench.{Bench}
-use Rattle.demands.specs.Examples.{around}
 use Rattle.demands.specs.Apart.{withoutLessons, pttOf, Apart}
-use Rattle.demands.specs.LessonsSeen.{lab, enters, voice, keys, asked, answer}
+use Rattle.demands.specs.LessonsSeen.{lab, enters, voice, keys, asked, quietReport, answer}
 
 -- "For every input each public function's promise leaves one possible answer, one next state": those of keeping.
 abbrev pub Keeps : Machine → Type 0
@@ -43,14 +41,14 @@ abbrev pub withBytes : List ℕ → Said → Said
 withBytes other done = done
 withBytes other (own id) = own id
 withBytes other (heard missing reply standby sound) = heard missing reply standby sound
-withBytes other (ticked closed due) = ticked closed due
+withBytes other (ticked closed due records) = ticked closed due (map (λ d. cond d other []) due)
 withBytes other (written bytes) = written other
 
 abbrev pub withCount : ℕ → Said → Said
 withCount count done = done
 withCount count (own id) = own id
 withCount count (heard missing reply standby sound) = heard count reply standby sound
-withCount count (ticked closed due) = ticked closed due
+withCount count (ticked closed due records) = ticked closed due records
 withCount count (written bytes) = written bytes
 
 -- keeping, but for what it says
@@ -62,7 +60,7 @@ abbrev pub isLater : Bench → Call → Bool
 isLater b (packet n p) = seatOf (b .seats) n .heard .any
 isLater b (opening n r) = false
 isLater b (closing n) = false
-isLater b (tick ms) = false
+isLater b (tick ms timestamp room) = false
 isLater b (report n timestamp sound room) = false
 isLater b (received signals level) = false
 isLater b (transmitter healthy) = false
@@ -93,10 +91,6 @@ reported = enters 1 ∷ asked 1 ∷ []
 
 abbrev pub spoken : List Call
 spoken = enters 1 ∷ keys 1 normal 1 ∷ []
-
--- a report while nobody is on the air and no signal is received
-abbrev pub quietReport : (sequence : ℕ) → List ℕ
-quietReport sequence = 0x90 ∷ 0x7B ∷ 0 ∷ sequence ∷ drop 4 (around (0 ∷ 0 ∷ 0 ∷ 0 ∷ []))
 
 -- What is promised of these calls, and what a bench that never changes and one that nods do.
 pub record Tried : Type 0 where

@@ -42,11 +42,13 @@ closeIn s = do
   seat ← byteIn (lastOf s 1)
   Is (call.Close seat)
 
--- "tick MS"
+-- "tick MS TIMESTAMP ROOM"
 unfoldable pub tickIn : List ℕ → Said Call
 tickIn s = do
-  ms ← halfIn (lastOf s 1)
-  Is (call.Tick ms)
+  ms ← halfIn (wordOf s 1)
+  timestamp ← wholeIn (wordOf s 2)
+  size ← roomIn (lastOf s 3)
+  Is (call.Tick ms timestamp size)
 
 -- "packet SEAT HEX": here and below, `room` is that of the buffer for the bytes that the line gives.
 unfoldable pub packetIn : List ℕ → (room : ℕ) → Said Call
@@ -230,6 +232,14 @@ one-too-many = refl
 name-alone : callIn (text "air 7") 0 ≡ call.Wrong
 unfolding callIn lineIn namedIn airIn lastOf wordOf wordAt leading choiceOf firstFrom same
 name-alone = refl
+
+ticks : callIn (text "tick 200 160 208") 0 ≡ call.Tick 200 160 208
+unfolding callIn lineIn namedIn tickIn _>>=_ halfIn wholeIn roomIn lastOf wordOf wordAt leading choiceOf firstFrom same numberIn numberFrom valueFrom allDigits digitOf
+ticks = refl
+
+ms-alone : callIn (text "tick 200") 0 ≡ call.Wrong
+unfolding callIn lineIn namedIn tickIn _>>=_ halfIn wholeIn roomIn lastOf wordOf wordAt leading choiceOf firstFrom same numberIn numberFrom valueFrom allDigits digitOf
+ms-alone = refl
 
 no-words : callIn (text " # close 7") 0 ≡ call.Nothing
 unfolding callIn lineIn namedIn closeIn _>>=_ byteIn lastOf wordOf wordAt leading choiceOf firstFrom same numberIn numberFrom valueFrom allDigits digitOf

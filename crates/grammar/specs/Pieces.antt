@@ -15,6 +15,8 @@ use Rattle.grammar.specs.declared.pieces.BoolRead.{BoolRead}
 use Rattle.grammar.specs.declared.pieces.BoolRead.the-variants as bool
 use Rattle.grammar.specs.declared.pieces.CallTypeRead.{CallTypeRead}
 use Rattle.grammar.specs.declared.pieces.CallTypeRead.the-variants as call-type
+use Rattle.grammar.specs.declared.pieces.RoomRead.{RoomRead}
+use Rattle.grammar.specs.declared.pieces.RoomRead.the-variants as room
 use Rattle.grammar.specs.declared.pieces.LentRead.{LentRead}
 use Rattle.grammar.specs.declared.pieces.LentRead.the-variants as lent
 use Rattle.grammar.specs.declared.pieces.SeatsRead.{SeatsRead}
@@ -60,6 +62,10 @@ callTypeSaid call-type.Not = Not
 abbrev pub seatsSaid : SeatsRead → Said ℕ
 seatsSaid (seats.Are v) = Is v
 seatsSaid seats.Not = Not
+
+abbrev pub roomSaid : RoomRead → Said ℕ
+roomSaid (room.Is v) = Is v
+roomSaid room.Not = Not
 
 abbrev pub lentSaid : LentRead → Said Lent
 lentSaid (lent.Is v) = Is v

@@ -13,7 +13,12 @@ pub enum Call {
         request: Request,
     },
     Close(u8),
-    Tick(u16),
+    // A tick, and the room of the send buffer.
+    Tick {
+        ms: u16,
+        timestamp: u32,
+        room: usize,
+    },
     Packet {
         seat: u8,
         count: usize,
@@ -59,7 +64,7 @@ pub struct SetupSaid {
     pub coupling_summation: bool,
 }
 
-// The size of the largest buffer that is lent to a writer.
+// The size of the largest buffer that is lent to a call.
 pub const ROOM: usize = 512;
 
 // What is lent to a writer: so many bytes of audio, and a buffer of so many bytes.

@@ -11,7 +11,9 @@ use crate::messages::rx;
 use crate::messages::tx;
 use crate::pieces::BoolRead;
 use crate::pieces::LentRead;
+use crate::pieces::RoomRead;
 use crate::pieces::lent;
+use crate::pieces::room;
 use crate::pieces::second;
 use crate::requests::ModesRead;
 use crate::requests::RequestRead;
@@ -134,9 +136,19 @@ fn close(s: &[u8]) -> Call
 fn tick(s: &[u8]) -> Call
     ensures { λ r. ⌜ r ≡ orWrong (tickIn (now (s .entry))) ⌝ }
 {
-    match half(last(s, 1)) {
-        HalfRead::Is(ms) => Call::Tick(ms),
-        HalfRead::Not => Call::Wrong,
+    let HalfRead::Is(ms) = half(word(s, 1)) else {
+        return Call::Wrong;
+    };
+    let NumberRead::Is(timestamp) = number(word(s, 2)) else {
+        return Call::Wrong;
+    };
+    match room(last(s, 3)) {
+        RoomRead::Is(room) => Call::Tick {
+            ms,
+            timestamp,
+            room,
+        },
+        RoomRead::Not => Call::Wrong,
     }
 }
 

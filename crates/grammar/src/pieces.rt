@@ -3,8 +3,8 @@ ghost use mathlib.Core.Path.{_≡_};
 ghost use mathlib.Core.Bool.{true, false};
 ghost use mathlib.Core.List.{_∷_, []};
 ghost use Prim.Native.Nat.{_≤_};
-ghost use Rattle.grammar.specs.Said.{oneOf, callTypeIn, has, freeDigit, seatDigits, counted, lessonsOf, seatsIn};
-ghost use Rattle.grammar.specs.Pieces.{boolSaid, callTypeSaid, seatsSaid, lentSaid, lentIn};
+ghost use Rattle.grammar.specs.Said.{oneOf, callTypeIn, roomIn, has, freeDigit, seatDigits, counted, lessonsOf, seatsIn};
+ghost use Rattle.grammar.specs.Pieces.{boolSaid, callTypeSaid, roomSaid, seatsSaid, lentSaid, lentIn};
 use crate::call::Lent;
 use crate::call::ROOM;
 use base::part;
@@ -23,6 +23,11 @@ pub enum BoolRead {
 
 pub enum CallTypeRead {
     Is(CallType),
+    Not,
+}
+
+pub enum RoomRead {
+    Is(usize),
     Not,
 }
 
@@ -60,6 +65,21 @@ pub fn call_type(w: &[u8]) -> CallTypeRead
     }
 }
 
+// ROOM
+pub fn room(w: &[u8]) -> RoomRead
+    ensures { λ r. ⌜ roomSaid r ≡ roomIn (now (w .entry)) ⌝ }
+{
+    let HalfRead::Is(n) = half(w) else {
+        return RoomRead::Not;
+    };
+    let size = n as usize;
+    if ROOM < size {
+        RoomRead::Not
+    } else {
+        RoomRead::Is(size)
+    }
+}
+
 // AUDIO, as it was read, and ROOM.
 pub fn lent(audio: BytesRead, size: &[u8]) -> LentRead
     ensures { λ r. ⌜ lentSaid r ≡ lentIn audio (now (size .entry)) ⌝ }
@@ -67,14 +87,9 @@ pub fn lent(audio: BytesRead, size: &[u8]) -> LentRead
     let BytesRead::Are(audio) = audio else {
         return LentRead::Not;
     };
-    let HalfRead::Is(n) = half(size) else {
-        return LentRead::Not;
-    };
-    let room = n as usize;
-    if ROOM < room {
-        LentRead::Not
-    } else {
-        LentRead::Is(Lent { audio, room })
+    match room(size) {
+        RoomRead::Is(room) => LentRead::Is(Lent { audio, room }),
+        RoomRead::Not => LentRead::Not,
     }
 }
 

@@ -10,7 +10,7 @@ use lib.Seq.{getD-set-same, getD-set-other}
 use borrow.Author.Tests.{ltb-false, le-ltb, eqb-true, eqb-false, ne-eqb}
 use Rattle.base.proofs.Places.{all-alike, map-place}
 use Rattle.base.proofs.Truths.{or-left, or-right}
-use Rattle.record.specs.Record.{noSuchSeat, placeOf, closedSeat, seatOf, lesson}
+use Rattle.record.specs.Record.{seatNumbers, noSuchSeat, placeOf, closedSeat, seatOf, lesson}
 use Rattle.record.specs.declared.setup.Setup.{Setup}
 use Rattle.record.specs.declared.seat.Seat.{Seat}
 
@@ -37,6 +37,13 @@ each-seat P h (suc (suc (suc (suc (suc (suc (suc (suc (suc n))))))))) real = pas
     past : (k : ℕ) → noSuchSeat k ≡ false → 8 < k → P (suc (suc (suc (suc (suc (suc (suc (suc (suc n)))))))))
     past k e far = absurd (let r = seat-in-range k e in omega arith)
 
+-- what is made of each seat's number, at the place of one; and of two such lists
+pub at-seat : {A : Type 0} (f : ℕ → A) (d : A) (n : ℕ) → noSuchSeat n ≡ false → getD (map f seatNumbers) (n - 1) d ≡ f n
+at-seat f d = each-seat (λ n. getD (map f seatNumbers) (n - 1) d ≡ f n) (refl, refl, refl, refl, refl, refl, refl, refl)
+
+pub seats-alike : {A : Type 0} (f g : ℕ → A) → ((n : ℕ) → noSuchSeat n ≡ false → f n ≡ g n) → map f seatNumbers ≡ map g seatNumbers
+seats-alike f g h = cc (h 1 refl, h 2 refl, h 3 refl, h 4 refl, h 5 refl, h 6 refl, h 7 refl, h 8 refl)
+
 pub seat-of-place : (ss : List Seat) (n : ℕ) → noSuchSeat n ≡ false → seatOf ss n ≡ getD ss (n - 1) closedSeat
 unfolding seatOf
 seat-of-place ss n e = rw e
@@ -51,6 +58,14 @@ seat-at ss i h =
 pub seat-of-none : (ss : List Seat) (n : ℕ) → noSuchSeat n ≡ true → seatOf ss n ≡ closedSeat
 unfolding seatOf
 seat-of-none ss n e = rw e
+
+-- so one that is open is a seat
+pub open-is-seat : (ss : List Seat) (n : ℕ) → seatOf ss n .opened ≡ true → noSuchSeat n ≡ false
+open-is-seat ss n = by-number (noSuchSeat n) refl
+  where
+    by-number : (none : Bool) → noSuchSeat n ≡ none → seatOf ss n .opened ≡ true → none ≡ false
+    by-number true e up = absurd (true≢false (sym up ∙ ap (λ (s : Seat). s .opened) (seat-of-none ss n e)))
+    by-number false e up = refl
 
 -- what stands at the place of a seat's number is the seat
 pub placed : (seats : List Seat) (n i : ℕ) {s : Seat} → i ≡ placeOf n → s ≡ getD seats i closedSeat → noSuchSeat n ≡ false → s ≡ seatOf seats n

@@ -1,3 +1,4 @@
 pub mod ReportLaws
 pub mod Told
 pub mod Accepted
+pub mod ReportLength

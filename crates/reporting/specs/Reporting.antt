@@ -82,5 +82,8 @@ reportBuffer b n timestamp sound buffer =
     filled (reportSaid b n timestamp sound (length buffer)) (reportBytes b n timestamp sound) buffer
 
 -- "Its sequence goes up by one, wrapping, with each report written."
+abbrev pub nextSequence : (last : ℕ) → ℕ
+nextSequence last = (last + 1) % 65536
+
 unfoldable pub reportedBench : Bench → (n : ℕ) → Bench
-reportedBench b n = withSequence b n ((getD (b .sequences) (n - 1) 0 + 1) % 65536)
+reportedBench b n = withSequence b n (nextSequence (getD (b .sequences) (n - 1) 0))

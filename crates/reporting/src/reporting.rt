@@ -1,12 +1,12 @@
 // Reports to a seat: the message, the refusals in front of it, and the sequence number behind it.
 ghost use mathlib.Core.Path.{_≡_};
 ghost use mathlib.Core.Bool.{false};
-ghost use Prim.Native.Nat.{_+_, _%_};
-ghost use lib.ListN.{length};
+ghost use Prim.Native.Nat.{_-_};
+ghost use lib.ListN.{length, getD};
 ghost use Rattle.writer.specs.Writing.{fromRx, put, afterPut, writtenAnswer};
 ghost use Rattle.packet.specs.Refusals.{verdictOf};
 ghost use Rattle.record.specs.Record.{noSuchSeat, settled};
-ghost use Rattle.reporting.specs.Reporting.{idTold, sqiTold, sideTold, audioBarred, reportOf, reportSaid, reportBuffer, reportedBench};
+ghost use Rattle.reporting.specs.Reporting.{idTold, sqiTold, sideTold, audioBarred, reportOf, reportSaid, reportBuffer, nextSequence, reportedBench};
 ghost use Rattle.reporting.specs.Pieces.{reportVerdict};
 use packet::Refusal;
 use packet::Rx;
@@ -18,6 +18,7 @@ use packet::quality;
 use record::Air;
 use record::Bench;
 use record::place;
+use record::seat_of;
 use seats::opening::seat_verdict;
 use writer::Written;
 use writer::put_rx;
@@ -91,19 +92,19 @@ fn written(b: Bench, n: u8, timestamp: u32, audio: &[u8], out: &mut [u8]) -> Rep
     }
 }
 
-// The report as a message.
-fn report_of(b: Bench, n: u8, timestamp: u32) -> Rx
-    requires { ⌜ noSuchSeat n ≡ false ⌝ }
+// The report as a message, of any bench and any number: what is no seat's is told as a closed seat is.
+pub fn report_of(b: Bench, n: u8, timestamp: u32) -> Rx
     ensures { λ r. ⌜ r ≡ reportOf b n timestamp ⌝ }
 {
     let setup = b.setup;
-    let i = (n - 1) as usize;
-    let s = b.seats[i];
+    let seats = b.seats;
+    let s = seat_of(seats, n);
     let heard = s.heard;
     let field = heard.field;
     let air = b.air;
+    let sequences = b.sequences;
     Rx {
-        sequence: b.sequences[i],
+        sequence: sequence_of(sequences, n),
         timestamp,
         ssrc: s.ssrc,
         ptt: air.ptt,
@@ -117,12 +118,29 @@ fn report_of(b: Bench, n: u8, timestamp: u32) -> Rx
     }
 }
 
+// A seat's number, counted from 0.
+fn from_zero(n: u8) -> usize
+    ensures { λ r. ⌜ r ≡ n - 1 ⌝ }
+{
+    if n == 0 { 0 } else { (n - 1) as usize }
+}
+
+// The number of the seat's next report.
+fn sequence_of(sequences: [u16; 8], n: u8) -> u16
+    ensures { λ r. ⌜ r ≡ getD sequences (n - 1) 0 ⌝ }
+{
+    let i = from_zero(n);
+    if i < 8 { sequences[i] } else { 0 }
+}
+
 // The seat's own ptt-id if it is on the air at the top rank, else the smallest there, 0 if nobody is.
 fn id_told(air: Air, n: u8) -> u8
-    requires { ⌜ noSuchSeat n ≡ false ⌝ }
     ensures { λ r. ⌜ r ≡ idTold air n ⌝ }
 {
-    let i = (n - 1) as usize;
+    let i = from_zero(n);
+    if 8 <= i {
+        return air.id;
+    }
     if air.leads[i] { n } else { air.id }
 }
 
@@ -167,8 +185,8 @@ fn reported_bench(b: Bench, n: u8) -> Bench
 }
 
 // One up, wrapping.
-fn next_sequence(last: u16) -> u16
-    ensures { λ r. ⌜ r ≡ (last + 1) % 65536 ⌝ }
+pub fn next_sequence(last: u16) -> u16
+    ensures { λ r. ⌜ r ≡ nextSequence last ⌝ }
 {
     ((last as u32 + 1) % 65536) as u16
 }

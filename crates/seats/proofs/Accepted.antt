@@ -5,12 +5,11 @@ use mathlib.Core.Path.{_≡_}
 use mathlib.Core.Bool.{Bool, true, false, _&&_}
 use mathlib.Core.List.{List}
 use lib.Dec.{leb}
-use borrow.Author.Tests.{ltb-false, leb-true, not-false}
+use borrow.Author.Tests.{leb-true, not-false}
 use Rattle.base.proofs.Truths.{and-left, and-right, and-rest}
 use Rattle.packet.specs.Refusals.{NoCase}
 use Rattle.record.specs.Record.{noSuchSeat, seatOf, lesson}
 use Rattle.seats.specs.Opening.{shortest, longest, fewest, most, asksCoupling, anyCoupling, timesAllowed, openRefusals, seatRefusals}
-use Rattle.seats.specs.Ticking.{longestTick, tickRefusals}
 use Rattle.seats.specs.Radio.{sideRefusals}
 use Rattle.record.specs.declared.setup.Setup.{Setup}
 use Rattle.record.specs.declared.seat.Seat.{Seat}
@@ -50,10 +49,6 @@ pub record SeatAccepted (n : ℕ) (opened : Bool) : Type 0 where
 pub seat-accepted : (n : ℕ) (opened : Bool) → NoCase (seatRefusals n opened) → SeatAccepted n opened
 unfolding seatRefusals
 seat-accepted n opened none = record { is-seat = none .0; was-open = not-false _ (none .1 .0) }
-
-pub tick-accepted : (ms : ℕ) → NoCase (tickRefusals ms) → ms ≤ longestTick
-unfolding tickRefusals
-tick-accepted ms none = ltb-false longestTick ms (none .0)
 
 pub side-accepted : (setup : Setup) → NoCase (sideRefusals setup) → setup .pair ≡ true
 unfolding sideRefusals

@@ -1,23 +1,19 @@
 -- The cases of a tick, as the answers of the code ask for them.
-use Prim.Native.Nat.{ℕ, zero, _%_, _<_, _≤_}
-use mathlib.Core.Path.{_≡_, refl, ap, sym, _∙_}
-use mathlib.Core.Bool.{Bool, true, false, cond}
-use mathlib.Core.List.{List, map}
+use Prim.Native.Nat.{ℕ, zero, _+_, _%_, _<_}
+use mathlib.Core.Path.{_≡_, refl, sym, _∙_}
+use mathlib.Core.Bool.{Bool, true, false, cond, not, _&&_}
 use native.Mathlib.Nat.{mod-lt}
 use native.Mathlib.Omega.{arith}
+use lib.Dec.{leb}
 use borrow.Author.Needs.{needs}
-use borrow.Author.Tests.{eq-eqb, ne-eqb, leb-false, le-leb, lt-leb, lt-ltb, le-ltb}
+use borrow.Author.Tests.{eq-eqb, ne-eqb, leb-false, le-leb, lt-leb, not-true}
 use mir.Syntax.{w16}
 use mir.Val.{Fits}
 use Rattle.base.proofs.Loops.{fill-more, fill-done}
 use Rattle.base.proofs.Truths.{and-left, and-right, choice-true, choice-false}
-use Rattle.packet.specs.Refusals.{accepted, refused}
-use Rattle.record.specs.Record.{closedSeat, settled}
-use Rattle.air.specs.Air.{aired}
-use Rattle.seats.specs.Ticking.{nothingLeft, fallsSilent, isDue, aged, tickedSeat, longestTick, tickRefusals, tickSaid, noSeats, tickSets, tickedBench}
+use Rattle.record.specs.Record.{closedSeat}
+use Rattle.seats.specs.Ticking.{nothingLeft, fallsSilent, isDue, aged, tickedSeat}
 use Rattle.record.specs.declared.seat.Seat.{Seat}
-use Rattle.record.specs.declared.whole.Bench.{Bench}
-use Rattle.seats.specs.declared.ticking.SeatSets.{SeatSets}
 
 -- what is left over of a period fits where the period does
 pub rest-fits : (a period : ℕ) → (period ≡ 0 → ⊥) → period < 65536 → Fits w16 (a % period)
@@ -44,6 +40,14 @@ module _ (ms : ℕ) (s : Seat) where
   unfolding tickedSeat
   closed-untouched o = simp o
 
+  -- "A closed seat isn't due": not one that the tick closes, either
+  pub due-open : isDue ms s ≡ true → tickedSeat ms s .opened ≡ true
+  unfolding isDue tickedSeat
+  due-open e =
+      let kept = and-left (s .opened && not (nothingLeft ms s)) (leb (s .period) (s .phase + ms)) e in
+      let was = and-left (s .opened) (not (nothingLeft ms s)) kept in
+      simp (was, not-true (nothingLeft ms s) (and-right (s .opened) (not (nothingLeft ms s)) kept))
+
 -- what holds of a closed seat, of one that grew older and of one that was closed before holds of a seat after a tick
 pub ticked-cases : (P : Seat → Type 0) (ms : ℕ) (s : Seat) → P closedSeat → (s .opened ≡ true → ms < s .left → P (aged ms s)) → P s → P (tickedSeat ms s)
 unfolding tickedSeat
@@ -54,33 +58,6 @@ ticked-cases P ms s closes ages stays = by-tests (s .opened) (nothingLeft ms s) 
     by-tests true false e h = ages e (omega (arith, leb-false))
     by-tests false silent e h = stays
 
--- ---- the whole tick
-
-module _ (b : Bench) (ms : ℕ) (h : longestTick < ms) where
-  pub tick-24 : refused 24 0 ≡ tickSaid ms
-  unfolding tickSaid tickRefusals
-  tick-24 = simp (lt-ltb _ _ h)
-
-  pub tick-none : noSeats ≡ tickSets b ms
-  unfolding tickSets
-  tick-none = simp (lt-ltb _ _ h)
-
-  pub tick-stays : b ≡ settled (tickSaid ms) b (aired (tickedBench b ms))
-  tick-stays = rw (← tick-24)
-
-module _ (b : Bench) (ms : ℕ) (h : ms ≤ longestTick) where
-  pub tick-done : accepted tt ≡ tickSaid ms
-  unfolding tickSaid tickRefusals
-  tick-done = simp (le-ltb _ _ h)
-
-  pub tick-tells : (closed due : List Bool) → closed ≡ map (fallsSilent ms) (b .seats) → due ≡ map (isDue ms) (b .seats)
-      → _≡_ {A = SeatSets} (record { closed = closed; due = due }) (tickSets b ms)
-  unfolding tickSets
-  tick-tells closed due e f = simp (le-ltb _ _ h, e, f)
-
-  pub tick-moves : (made next : Bench) → made ≡ tickedBench b ms → next ≡ aired made → next ≡ settled (tickSaid ms) b (aired (tickedBench b ms))
-  tick-moves made next m right = rw (← tick-done) (right ∙ ap aired m)
-
 pub ruleset phaseCases = (rest-fits, choice-true, choice-false, eq-eqb, ne-eqb, le-leb, lt-leb, needs)
 
-pub ruleset tickingCases = (falls-closed, time-left, open-ages, closed-untouched, tick-24, tick-none, tick-stays, tick-done, tick-tells, tick-moves, fill-more, fill-done, needs)
+pub ruleset tickingCases = (falls-closed, time-left, open-ages, closed-untouched, fill-more, fill-done, needs)

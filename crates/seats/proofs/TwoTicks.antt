@@ -2,6 +2,7 @@
 use Prim.Native.Nat.{ℕ, _+_, _-_, _%_, _≤_, _<_}
 use mathlib.Core.Path.{_≡_, refl, sym, ap, ap₂, _∙_}
 use mathlib.Core.Bool.{Bool, true, false, cond, not, _&&_, _||_, false≢true}
+use mathlib.Core.List.{List, [], _∷_, map}
 use native.Mathlib.Omega.{arith}
 use native.Mathlib.Nat.{mod-add-mod, mod-eq-of-lt, add-assoc, add-zero}
 use lib.Dec.{leb, eqb}
@@ -86,6 +87,11 @@ ticks-add a b s = by-tests (s .opened) (nothingLeft a s) refl refl
         open-ticks b (aged a s) o
         ∙ ap₂ (λ (t : Bool) (older : Seat). cond t closedSeat older) (left-adds a b s) (aged-adds a b s)
         ∙ sym (open-ticks (a + b) s o)
+
+-- and every seat
+pub seats-add : (a b : ℕ) (seats : List Seat) → map (tickedSeat b) (map (tickedSeat a) seats) ≡ map (tickedSeat (a + b)) seats
+seats-add a b [] = refl
+seats-add a b (s ∷ seats) = ap₂ (λ (t : Seat) (ts : List Seat). t ∷ ts) (ticks-add a b s) (seats-add a b seats)
 
 -- ---- what is told of it
 

@@ -1,14 +1,11 @@
--- 01: "Tick with 0 to 1000 elapsed ms." And Silence: what a tick does to a seat.
+-- 01, Silence: what a tick does to a seat, and to every seat.
 use Prim.Native.Nat.{ℕ, _+_, _-_, _%_}
-use mathlib.Core.Bool.{Bool, false, cond, not, _&&_}
-use mathlib.Core.List.{List, [], _∷_, map}
-use lib.Dec.{ltb, leb, eqb}
-use lib.ListN.{replicate}
-use Rattle.packet.specs.Refusals.{Case, _if_, Answer, judged}
+use mathlib.Core.Bool.{Bool, cond, not, _&&_}
+use mathlib.Core.List.{List, map}
+use lib.Dec.{leb, eqb}
 use Rattle.record.specs.Record.{closedSeat, withSeats}
 use Rattle.record.specs.declared.seat.Seat.{Seat}
 use Rattle.record.specs.declared.whole.Bench.{Bench}
-use Rattle.seats.specs.declared.ticking.SeatSets.{SeatSets}
 
 -- "A tick takes its ms from that; the seat is closed if nothing is left."
 abbrev pub nothingLeft : (ms : ℕ) → Seat → Bool
@@ -43,28 +40,17 @@ aged ms s =
 unfoldable pub tickedSeat : (ms : ℕ) → Seat → Seat
 tickedSeat ms s = cond (s .opened) (cond (nothingLeft ms s) closedSeat (aged ms s)) s
 
--- "24 | elapsed above 1000"
-abbrev pub longestTick : ℕ
-longestTick = 1000
-
-abbrev pub tooLong : (ms : ℕ) → Bool
-tooLong ms = ltb longestTick ms
-
-unfoldable pub tickRefusals : (ms : ℕ) → List Case
-tickRefusals ms = 24 if tooLong ms ∷ []
-
--- "It answers the seats closed by silence (cause 2001) and the seats due a report."
+-- "It answers the seats closed by silence (cause 2001) and the seats due a report": which these are. (The call itself, with the
+-- reports that it writes, is in `sending`.)
 abbrev pub silenceCause : ℕ
 silenceCause = 2001
 
-unfoldable pub tickSaid : (ms : ℕ) → Answer (Unit {0})
-tickSaid ms = judged (tickRefusals ms) tt
+abbrev pub silentSeats : Bench → (ms : ℕ) → List Bool
+silentSeats b ms = map (fallsSilent ms) (b .seats)
 
-abbrev pub noSeats : SeatSets
-noSeats = record { closed = replicate 8 false; due = replicate 8 false }
+abbrev pub dueSeats : Bench → (ms : ℕ) → List Bool
+dueSeats b ms = map (isDue ms) (b .seats)
 
-unfoldable pub tickSets : Bench → (ms : ℕ) → SeatSets
-tickSets b ms = cond (tooLong ms) noSeats (record { closed = map (fallsSilent ms) (b .seats); due = map (isDue ms) (b .seats) })
-
+-- and the bench with every seat after it, its closings among them
 unfoldable pub tickedBench : Bench → (ms : ℕ) → Bench
 tickedBench b ms = withSeats b (map (tickedSeat ms) (b .seats))

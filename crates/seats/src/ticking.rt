@@ -1,64 +1,10 @@
-// Time passing: seats closed by silence, and seats due a report.
+// Time passing: seats closed by silence, and seats due a report. The call that lets it pass is in `sending`, with its reports.
 ghost use mathlib.Core.Path.{_≡_};
 ghost use mathlib.Core.List.{map};
 ghost use Prim.Native.Nat.{_<_};
-ghost use Rattle.record.specs.Record.{settled};
-ghost use Rattle.air.specs.Air.{aired};
-ghost use Rattle.seats.specs.Ticking.{nothingLeft, fallsSilent, phaseAfter, isDue, aged, tickedSeat, silenceCause, tickSaid, tickSets, tickedBench};
-ghost use Rattle.seats.specs.Answers.{doneAnswer};
-use crate::answer::DoneAnswer;
-use air::aired;
-use packet::Refusal;
+ghost use Rattle.seats.specs.Ticking.{nothingLeft, fallsSilent, phaseAfter, isDue, aged, tickedSeat, silenceCause, tickedBench};
 use record::Bench;
 use record::Seat;
-
-// The longest that one tick may last, in ms.
-const LONGEST: u16 = 1000;
-
-// Sets of seats: those closed by silence, and those due a report. Seat n has place n - 1.
-#[repr(C)]
-pub struct SeatSets {
-    pub closed: [bool; 8],
-    pub due: [bool; 8],
-}
-
-pub struct Ticked {
-    pub bench: Bench,
-    pub answer: DoneAnswer,
-    pub seats: SeatSets,
-}
-
-impl SeatSets {
-    pub const NONE: SeatSets = SeatSets {
-        closed: [false; 8],
-        due: [false; 8],
-    };
-}
-
-// Lets ms pass. The answer's seats are decided from the bench as it was.
-pub fn tick(b: Bench, ms: u16) -> Ticked
-    ensures answer { λ t. ⌜ doneAnswer (t .answer) ≡ tickSaid ms ⌝ }
-    ensures seats { λ t. ⌜ t .seats ≡ tickSets b ms ⌝ }
-    ensures bench { λ t. ⌜ t .bench ≡ settled (tickSaid ms) b (aired (tickedBench b ms)) ⌝ }
-{
-    if LONGEST < ms {
-        return Ticked {
-            bench: b,
-            answer: DoneAnswer::Refused(Refusal::ElapsedTooLong),
-            seats: SeatSets::NONE,
-        };
-    }
-    let seats = b.seats;
-    let closed = silent_seats(seats, ms);
-    let due = due_seats(seats, ms);
-    let ticked = ticked_bench(b, ms);
-    let next = aired(ticked);
-    Ticked {
-        bench: next,
-        answer: DoneAnswer::Done,
-        seats: SeatSets { closed, due },
-    }
-}
 
 // The cause with which a seat is closed by silence.
 pub fn silence_cause() -> u16
@@ -121,7 +67,8 @@ fn ticked_seat(s: Seat, ms: u16) -> Seat
     s
 }
 
-fn silent_seats(seats: [Seat; 8], ms: u16) -> [bool; 8]
+// Those closed by silence when ms pass. Seat n has place n - 1, in every set of seats.
+pub fn silent_seats(seats: [Seat; 8], ms: u16) -> [bool; 8]
     ensures { λ r. ⌜ r ≡ map (fallsSilent ms) seats ⌝ }
 {
     let mut silent = [false; 8];
@@ -131,7 +78,8 @@ fn silent_seats(seats: [Seat; 8], ms: u16) -> [bool; 8]
     silent
 }
 
-fn due_seats(seats: [Seat; 8], ms: u16) -> [bool; 8]
+// Those due a report then: decided, as the closings are, from the seats as they were.
+pub fn due_seats(seats: [Seat; 8], ms: u16) -> [bool; 8]
     ensures { λ r. ⌜ r ≡ map (isDue ms) seats ⌝ }
 {
     let mut due = [false; 8];
@@ -151,7 +99,8 @@ fn ticked_seats(seats: [Seat; 8], ms: u16) -> [Seat; 8]
     ticked
 }
 
-fn ticked_bench(b: Bench, ms: u16) -> Bench
+// The bench when ms have passed, but for what it keeps of the air.
+pub fn ticked_bench(b: Bench, ms: u16) -> Bench
     ensures { λ r. ⌜ r ≡ tickedBench b ms ⌝ }
 {
     let seats = b.seats;

@@ -27,7 +27,7 @@ air-left : (b : Bench) (c : Call) → NoReport c ⊎ AirRight b → AirRight (be
 air-left b (opening n r) known = sym (air-unread _)
 air-left b (closing n) known = sym (air-unread _)
 air-left b (packet n p) known = sym (air-unread _)
-air-left b (tick ms) known = sym (air-unread _)
+air-left b (tick ms timestamp room) known = sym (air-unread _)
 air-left b (report n timestamp sound room) (inl none) = absurd (none n timestamp sound room refl)
 air-left b (report n timestamp sound room) (inr right) = unfold reportedBench benchAir keyings in right
 air-left b (received signals level) known = sym (air-unread _)

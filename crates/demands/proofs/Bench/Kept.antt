@@ -13,9 +13,10 @@ use Rattle.packet.specs.Refusals.{NoCase}
 use Rattle.packet.specs.declared.message.Tx.{Tx}
 use Rattle.record.specs.Record.{closedSeat, openedSeat, freshBench, seatOf}
 use Rattle.seats.specs.Opening.{callCode, asksCoupling, holdsCoupling, openedBench, closedBench}
-use Rattle.seats.specs.Ticking.{tickedSeat, tickedBench}
+use Rattle.seats.specs.Ticking.{tickedSeat, dueSeats, tickedBench}
 use Rattle.hearing.specs.Hearing.{fieldHeard, heardSeat, heardBench, messageIn}
 use Rattle.reporting.specs.Reporting.{reportedBench}
+use Rattle.sending.specs.Sending.{sentBench}
 use Rattle.bench.specs.Step.{Call, opening, closing, packet, tick, report, received, transmitter, side, keeping, after}
 use Rattle.record.specs.declared.setup.Setup.{Setup}
 use Rattle.record.specs.declared.seat.Seat.{Seat}
@@ -29,6 +30,7 @@ use Rattle.seats.proofs.Accepted.{open-accepted, side-accepted}
 use Rattle.hearing.proofs.Sides.{side-stays}
 use Rattle.hearing.proofs.Accepted.{packet-accepted}
 use Rattle.record.proofs.Seats.{seat-of-eight-closed}
+use Rattle.sending.proofs.Numbers.{as-many-numbers, numbers-fit}
 use Rattle.seats.proofs.OpeningLaws.{none-coupling}
 use Rattle.demands.proofs.Bench.SeatAfter.{same-setup, as-many-seats, seat-made}
 use Rattle.demands.proofs.Bench.Order.{many-order-after, length-order-after}
@@ -72,14 +74,15 @@ ticked-coupling ms s = ticked-cases (λ t. holdsCoupling t ≡ true → holdsCou
 
 module _ (b : Bench) (kept : Kept b) where
   sequences-kept : (c : Call) → InRange c → (length (benchAfter b c .sequences) ≡ 8) × ((i : ℕ) → getD (benchAfter b c .sequences) i 0 < 65536)
-  unfolding openedBench closedBench heardBench tickedBench reportedBench
+  unfolding openedBench closedBench heardBench tickedBench sentBench reportedBench
   sequences-kept (opening n r) fits =
       (length-set (b .sequences) (n - 1) _ ∙ kept .eight-sequences, λ i. set-fits (b .sequences) (n - 1) (r .sequence) i (fits .1) (kept .sequences-fit))
   sequences-kept (report n timestamp sound room) fits =
       (length-set (b .sequences) (n - 1) _ ∙ kept .eight-sequences, λ i. set-fits (b .sequences) (n - 1) _ i (wraps _) (kept .sequences-fit))
   sequences-kept (closing n) fits = (kept .eight-sequences, kept .sequences-fit)
   sequences-kept (packet n p) fits = (kept .eight-sequences, kept .sequences-fit)
-  sequences-kept (tick ms) fits = (kept .eight-sequences, kept .sequences-fit)
+  sequences-kept (tick ms timestamp room) fits =
+      (as-many-numbers (dueSeats b ms) (b .sequences) ∙ kept .eight-sequences, numbers-fit (dueSeats b ms) (b .sequences) (kept .sequences-fit))
   sequences-kept (received signals level) fits = (kept .eight-sequences, kept .sequences-fit)
   sequences-kept (transmitter healthy) fits = (kept .eight-sequences, kept .sequences-fit)
   sequences-kept (side standby) fits = (kept .eight-sequences, kept .sequences-fit)
@@ -87,11 +90,11 @@ module _ (b : Bench) (kept : Kept b) where
   -- ---- the order
 
   order-kept : (c : Call) → (length (benchAfter b c .order) ≡ length (b .order)) × ((test : ℕ → Bool) → howMany test (benchAfter b c .order) ≡ howMany test (b .order))
-  unfolding openedBench closedBench heardBench tickedBench reportedBench
+  unfolding openedBench closedBench heardBench tickedBench sentBench reportedBench
   order-kept (packet n p) = (length-order-after n _ _ (b .order), many-order-after n _ _ (b .order))
   order-kept (opening n r) = (refl, λ m. refl)
   order-kept (closing n) = (refl, λ m. refl)
-  order-kept (tick ms) = (refl, λ m. refl)
+  order-kept (tick ms timestamp room) = (refl, λ m. refl)
   order-kept (report n timestamp sound room) = (refl, λ m. refl)
   order-kept (received signals level) = (refl, λ m. refl)
   order-kept (transmitter healthy) = (refl, λ m. refl)
@@ -114,7 +117,7 @@ module _ (b : Bench) (kept : Kept b) where
           subst (λ (k : ℕ). SeatKept (b .setup) k (heardSeat (seatOf (b .seats) k) (messageIn p))) (sym (eqb-true n m e))
           (heard-seat-kept (b .setup) m (b .seats) p (packet-accepted (b .setup) m (seatOf (b .seats) m) p none) fits (kept .each-seat m))
       by-case false e = kept .each-seat n
-  seat-kept (tick ms) fits none n = ticked-seat-kept (b .setup) n ms (seatOf (b .seats) n) (kept .each-seat n)
+  seat-kept (tick ms timestamp room) fits none n = ticked-seat-kept (b .setup) n ms (seatOf (b .seats) n) (kept .each-seat n)
   seat-kept (report m timestamp sound room) fits none n = kept .each-seat n
   seat-kept (received signals level) fits none n = kept .each-seat n
   seat-kept (transmitter healthy) fits none n = kept .each-seat n
@@ -143,7 +146,7 @@ module _ (b : Bench) (kept : Kept b) where
       kept .one-coupling m n (closed-coupling (eqb m k) (seatOf (b .seats) m) e) (closed-coupling (eqb n k) (seatOf (b .seats) n) f)
   coupling-kept (packet k p) none m n e f =
       kept .one-coupling m n (heard-coupling (eqb m k) (seatOf (b .seats) m) (messageIn p) e) (heard-coupling (eqb n k) (seatOf (b .seats) n) (messageIn p) f)
-  coupling-kept (tick ms) none m n e f =
+  coupling-kept (tick ms timestamp room) none m n e f =
       kept .one-coupling m n (ticked-coupling ms (seatOf (b .seats) m) e) (ticked-coupling ms (seatOf (b .seats) n) f)
   coupling-kept (report k timestamp sound room) none m n e f = kept .one-coupling m n e f
   coupling-kept (received signals level) none m n e f = kept .one-coupling m n e f
@@ -153,14 +156,14 @@ module _ (b : Bench) (kept : Kept b) where
   -- ---- the side of a single radio
 
   main-kept : (c : Call) → InRange c → NoCase (refusalsOf b c) → b .setup .pair ≡ false → benchAfter b c .standby ≡ false
-  unfolding openedBench closedBench heardBench heardSeat tickedBench reportedBench
+  unfolding openedBench closedBench heardBench heardSeat tickedBench sentBench reportedBench
   main-kept (packet n p) fits none single =
       let new = heard-seat-kept (b .setup) n (b .seats) p (packet-accepted (b .setup) n (seatOf (b .seats) n) p none) fits (kept .each-seat n) in
       side-stays (seatOf (b .seats) n .heard .field) (fieldHeard (messageIn p)) (b .standby) (new .field-kept .no-item-single single) ∙ kept .single-on-main single
   main-kept (side standby) fits none single = cc (side-accepted (b .setup) none)
   main-kept (opening n r) fits none single = kept .single-on-main single
   main-kept (closing n) fits none single = kept .single-on-main single
-  main-kept (tick ms) fits none single = kept .single-on-main single
+  main-kept (tick ms timestamp room) fits none single = kept .single-on-main single
   main-kept (report n timestamp sound room) fits none single = kept .single-on-main single
   main-kept (received signals level) fits none single = kept .single-on-main single
   main-kept (transmitter healthy) fits none single = kept .single-on-main single

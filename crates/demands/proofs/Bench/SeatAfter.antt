@@ -12,6 +12,7 @@ use Rattle.seats.specs.Opening.{callCode, openedBench, closedBench}
 use Rattle.seats.specs.Ticking.{tickedSeat, tickedBench}
 use Rattle.hearing.specs.Hearing.{heardSeat, heardBench, messageIn}
 use Rattle.reporting.specs.Reporting.{reportedBench}
+use Rattle.sending.specs.Sending.{sentBench}
 use Rattle.bench.specs.Step.{Call, opening, closing, packet, tick, report, received, transmitter, side, Said, keeping, after, wasAccepted, acceptedCalls}
 use Rattle.record.specs.declared.seat.Seat.{Seat}
 use Rattle.record.specs.declared.whole.Bench.{Bench}
@@ -27,11 +28,11 @@ use Rattle.record.proofs.Seats.{seat-put, seat-changed}
 -- ---- the set-up, and how many seats
 
 pub same-setup : (b : Bench) (c : Call) → benchAfter b c .setup ≡ b .setup
-unfolding openedBench closedBench heardBench tickedBench reportedBench
+unfolding openedBench closedBench heardBench tickedBench sentBench reportedBench
 same-setup b (opening n r) = refl
 same-setup b (closing n) = refl
 same-setup b (packet n p) = refl
-same-setup b (tick ms) = refl
+same-setup b (tick ms timestamp room) = refl
 same-setup b (report n timestamp sound room) = refl
 same-setup b (received signals level) = refl
 same-setup b (transmitter healthy) = refl
@@ -41,11 +42,11 @@ pub setup-kept : (b : Bench) (c : Call) → keeping b c .bench .setup ≡ b .set
 setup-kept b c = after-call (λ (x : Bench). x .setup ≡ b .setup) b c refl (λ none. same-setup b c)
 
 pub as-many-seats : (b : Bench) (c : Call) → length (benchAfter b c .seats) ≡ length (b .seats)
-unfolding openedBench closedBench heardBench tickedBench reportedBench
+unfolding openedBench closedBench heardBench tickedBench sentBench reportedBench
 as-many-seats b (opening n r) = length-set (b .seats) (n - 1) _
 as-many-seats b (closing n) = length-set (b .seats) (n - 1) _
 as-many-seats b (packet n p) = length-set (b .seats) (n - 1) _
-as-many-seats b (tick ms) = length-map (b .seats) (tickedSeat ms)
+as-many-seats b (tick ms timestamp room) = length-map (b .seats) (tickedSeat ms)
 as-many-seats b (report n timestamp sound room) = refl
 as-many-seats b (received signals level) = refl
 as-many-seats b (transmitter healthy) = refl
@@ -64,14 +65,14 @@ named change ss m n false e = refl
 
 pub seat-made : (b : Bench) (c : Call) → length (b .seats) ≡ 8 → NoCase (refusalsOf b c) → (n : ℕ)
     → seatOf (benchAfter b c .seats) n ≡ seatAfter c n (seatOf (b .seats) n)
-unfolding openedBench closedBench heardBench tickedBench reportedBench tickedSeat
+unfolding openedBench closedBench heardBench tickedBench sentBench reportedBench tickedSeat
 seat-made b (opening m r) eight none n =
     seat-put (b .seats) m n (openedSeat (callCode (r .call)) (r .period) (r .multiplier) (r .ssrc)) eight (open-accepted (b .setup) m (b .seats) r none .is-seat)
 seat-made b (closing m) eight none n = seat-put (b .seats) m n closedSeat eight (seat-accepted m (seatOf (b .seats) m .opened) none .is-seat)
 seat-made b (packet m p) eight none n =
     seat-put (b .seats) m n (heardSeat (seatOf (b .seats) m) (messageIn p)) eight (packet-accepted (b .setup) m (seatOf (b .seats) m) p none .is-seat)
     ∙ named (λ s. heardSeat s (messageIn p)) (b .seats) m n (eqb n m) refl
-seat-made b (tick ms) eight none n = seat-changed (tickedSeat ms) refl (b .seats) n
+seat-made b (tick ms timestamp room) eight none n = seat-changed (tickedSeat ms) refl (b .seats) n
 seat-made b (report m timestamp sound room) eight none n = refl
 seat-made b (received signals level) eight none n = refl
 seat-made b (transmitter healthy) eight none n = refl

@@ -4,11 +4,12 @@ use mathlib.Core.List.{List}
 use Rattle.packet.specs.Refusals.{Case, NoCase, Answer, judged}
 use Rattle.record.specs.Record.{settled, withSide, withHealth, withSignals}
 use Rattle.seats.specs.Opening.{ownId, callCode, openSaid, openedBench, closeSaid, closedBench, seatVerdict}
-use Rattle.seats.specs.Ticking.{tickSaid, tickSets, tickedBench}
+use Rattle.seats.specs.Ticking.{silentSeats, dueSeats}
 use Rattle.seats.specs.Radio.{sideSaid}
 use Rattle.air.specs.Air.{aired}
 use Rattle.hearing.specs.Hearing.{packetSaid, hearing, heardBench, messageIn}
 use Rattle.reporting.specs.Reporting.{reportSaid, reportBytes, reportedBench}
+use Rattle.sending.specs.Sending.{records, sentBench, tickSaid}
 use Rattle.bench.specs.Step.{Call, opening, closing, packet, tick, report, received, transmitter, side, Said, done, own, ticked, written, told, does, keeping}
 use Rattle.record.specs.declared.whole.Bench.{Bench}
 use Rattle.demands.specs.ExactCalls.{refusalsOf}
@@ -19,7 +20,7 @@ abbrev pub saidBy : Bench → Call → Said
 saidBy b (opening n r) = own (ownId n (callCode (r .call)))
 saidBy b (closing n) = done
 saidBy b (packet n p) = told (packetSaid b n p) p (hearing b n p)
-saidBy b (tick ms) = ticked (tickSets b ms .closed) (tickSets b ms .due)
+saidBy b (tick ms timestamp room) = ticked (silentSeats b ms) (dueSeats b ms) (records b ms timestamp)
 saidBy b (report n timestamp sound room) = written (reportBytes b n timestamp sound)
 saidBy b (received signals level) = done
 saidBy b (transmitter healthy) = done
@@ -30,7 +31,7 @@ abbrev pub benchAfter : Bench → Call → Bench
 benchAfter b (opening n r) = aired (openedBench b n r)
 benchAfter b (closing n) = aired (closedBench b n)
 benchAfter b (packet n p) = aired (heardBench b n (messageIn p))
-benchAfter b (tick ms) = aired (tickedBench b ms)
+benchAfter b (tick ms timestamp room) = aired (sentBench b ms)
 benchAfter b (report n timestamp sound room) = reportedBench b n
 benchAfter b (received signals level) = aired (withSignals b signals level)
 benchAfter b (transmitter healthy) = aired (withHealth b healthy)
@@ -46,7 +47,8 @@ unfolding does openSaid closeSaid seatVerdict packetSaid tickSaid reportSaid sid
 call-answer b (opening n r) = judged-mapped own (refusalsOf b (opening n r)) (ownId n (callCode (r .call)))
 call-answer b (closing n) = judged-mapped (λ u. done) (refusalsOf b (closing n)) tt
 call-answer b (packet n p) = judged-mapped (told (packetSaid b n p) p) (refusalsOf b (packet n p)) (hearing b n p)
-call-answer b (tick ms) = judged-mapped (λ u. ticked (tickSets b ms .closed) (tickSets b ms .due)) (refusalsOf b (tick ms)) tt
+call-answer b (tick ms timestamp room) =
+    judged-mapped (λ used. ticked (silentSeats b ms) (dueSeats b ms) (records b ms timestamp)) (refusalsOf b (tick ms timestamp room)) _
 call-answer b (report n timestamp sound room) =
     judged-mapped (λ k. written (reportBytes b n timestamp sound)) (refusalsOf b (report n timestamp sound room)) _
 call-answer b (received signals level) = refl
@@ -58,7 +60,7 @@ unfolding does openSaid closeSaid seatVerdict packetSaid tickSaid reportSaid sid
 call-bench b (opening n r) = settled-judged (refusalsOf b (opening n r)) _ _ b _
 call-bench b (closing n) = settled-judged (refusalsOf b (closing n)) _ _ b _
 call-bench b (packet n p) = settled-judged (refusalsOf b (packet n p)) _ _ b _
-call-bench b (tick ms) = settled-judged (refusalsOf b (tick ms)) _ _ b _
+call-bench b (tick ms timestamp room) = settled-judged (refusalsOf b (tick ms timestamp room)) _ _ b _
 call-bench b (report n timestamp sound room) = settled-judged (refusalsOf b (report n timestamp sound room)) _ _ b _
 call-bench b (received signals level) = refl
 call-bench b (transmitter healthy) = refl

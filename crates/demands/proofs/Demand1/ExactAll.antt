@@ -6,7 +6,7 @@ use Rattle.packet.specs.Refusals.{Answer}
 use Rattle.reader.specs.Reading.{readerRefusals}
 use Rattle.writer.specs.Writing.{encode, filled, writerRefusals, write, buffered, putRefusals, put, afterPut}
 use Rattle.seats.specs.Opening.{openRefusals, seatRefusals}
-use Rattle.seats.specs.Ticking.{tickRefusals}
+use Rattle.sending.specs.Sending.{tickRefusals}
 use Rattle.seats.specs.Radio.{sideRefusals}
 use Rattle.air.specs.Air.{among}
 use Rattle.hearing.specs.Hearing.{messageRefusals, packetRefusals}
@@ -34,7 +34,7 @@ orders =
       of-open = λ b n r. refl;
       of-close = λ b n. refl;
       of-report = λ b n timestamp sound room. refl;
-      of-tick = λ b ms. refl;
+      of-tick = λ b ms timestamp room. refl;
       of-side = λ b standby. refl;
       of-received = λ b signals level. refl;
       of-transmitter = λ b healthy. refl;

@@ -6,7 +6,8 @@ use lib.ListN.{length}
 use Rattle.packet.specs.Refusals.{Answer, refused}
 use Rattle.writer.specs.Writing.{filled}
 use Rattle.reporting.specs.Reporting.{reportSaid, reportBytes, reportBuffer}
-use Rattle.bench.specs.Step.{Call, report, does, keeping}
+use Rattle.sending.specs.Sending.{sentBytes, tickSaid, tickBuffer}
+use Rattle.bench.specs.Step.{Call, tick, report, does, keeping}
 use Rattle.record.specs.declared.whole.Bench.{Bench}
 use Rattle.demands.specs.Exact.{Exact}
 use Rattle.demands.specs.ExactCalls.{refusalsOf, CallsExact}
@@ -23,5 +24,17 @@ unfolding does reportBuffer
 refused-writes-nothing b seat timestamp sound buffer n cause e =
     ap (λ (a : Answer ℕ). filled a (reportBytes b seat timestamp sound) buffer) (was-refused (reportSaid b seat timestamp sound (length buffer)) _ n cause e)
 
+refused-sends-nothing : (b : Bench) (ms timestamp : ℕ) (buffer : List ℕ) (n cause : ℕ)
+    → keeping b (tick ms timestamp (length buffer)) .answer ≡ refused n cause → tickBuffer b ms timestamp buffer ≡ buffer
+unfolding does tickBuffer
+refused-sends-nothing b ms timestamp buffer n cause e =
+    ap (λ (a : Answer ℕ). filled a (sentBytes b ms timestamp) buffer) (was-refused (tickSaid b ms timestamp (length buffer)) _ n cause e)
+
 pub calls-exact : CallsExact
-calls-exact = record { each-call = each-call; refused-keeps = refused-keeps; refused-writes-nothing = refused-writes-nothing }
+calls-exact =
+    record {
+      each-call = each-call;
+      refused-keeps = refused-keeps;
+      refused-writes-nothing = refused-writes-nothing;
+      refused-sends-nothing = refused-sends-nothing;
+    }

@@ -40,7 +40,7 @@ unfolding named
 later-low b (packet n p) live = ap (λ (s : Seat). s .heard .any) (seat-low b n live)
 later-low b (opening n r) live = refl
 later-low b (closing n) live = refl
-later-low b (tick ms) live = refl
+later-low b (tick ms timestamp room) live = refl
 later-low b (report n timestamp sound room) live = refl
 later-low b (received signals level) live = refl
 later-low b (transmitter healthy) live = refl

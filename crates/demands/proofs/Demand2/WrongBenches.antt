@@ -1,9 +1,10 @@
 -- The five wrong benches: where each breaks a promise, and that demand 3 alone would let it pass.
-use Prim.Native.Nat.{ℕ}
+use Prim.Native.Nat.{ℕ, _-_}
 use mathlib.Core.Path.{_≡_, refl, sym, ap, ap₂, _∙_}
 use mathlib.Core.Bool.{Bool, true, false, cond, false≢true}
-use mathlib.Core.List.{List, [], _∷_}
+use mathlib.Core.List.{List, [], _∷_, map}
 use native.Mathlib.Omega.{arith}
+use Rattle.base.proofs.Places.{map-place}
 use Rattle.base.proofs.Truths.{and-none}
 use Rattle.packet.specs.Refusals.{Answer, accepted, refused, mapped}
 use Rattle.base.specs.Lists.{howMany}
@@ -22,11 +23,12 @@ use Rattle.reporting.specs.Reporting.{reportOf, reportBytes, reportRefusals, re
 use Rattle.bench.specs.Step.{Call, packet, Said, done, own, heard, ticked, written, Outcome, Machine, does, keeping, after}
 use Rattle.record.specs.declared.setup.Setup.{Setup}
 use Rattle.record.specs.declared.whole.Bench.{Bench}
-use Rattle.demands.specs.Apart.{pttOf, liveAboveTest, blotted, fixed, compared}
-use Rattle.demands.specs.LessonsSeen.{enters, voice, keys, asked}
+use Rattle.demands.specs.Apart.{pttOf, liveAboveTest, asSeen, amongLive, recordsSeen, fixed, compared}
+use Rattle.demands.specs.LessonsSeen.{enters, voice, keys, asked, quietReport}
 use Rattle.demands.specs.Undisturbed.{audioSent}
-use Rattle.demands.specs.WrongBenches.{Keeps, labAfter, Answers, Leaves, WrongBench, refusing, repeating, ignoring, nodding, inventing, withBytes, withCount, retold, wrong, ApartAlone, entered, reported, spoken, quietReport, Tried, WrongBenches}
+use Rattle.demands.specs.WrongBenches.{Keeps, labAfter, Answers, Leaves, WrongBench, refusing, repeating, ignoring, nodding, inventing, withBytes, withCount, retold, wrong, ApartAlone, entered, reported, spoken, Tried, WrongBenches}
 use Rattle.packet.proofs.Judged.{never}
+use Rattle.demands.proofs.Demand3.LiveTicks.{flag-compared, live-alike}
 use Rattle.demands.proofs.Demand3.Apart.{lessons-apart}
 use Rattle.demands.proofs.Demand3.Undisturbed.{none-sent, together-then}
 use Rattle.demands.proofs.Demand2.Nodding.{nodding-apart}
@@ -121,8 +123,8 @@ module _ (machine : Machine) (still : (b : Bench) (c : Call) → machine b c .be
 
 -- what is compared of the retold is a retelling of what is compared, and the audio is kept
 record Retelling (tell : Said → Said) : Type 0 where
-  seen : (up : Bool) → Said → Said
-  follows : (setup : Setup) (up keysTest : Bool) (s : Said) → fixed setup up keysTest (tell s) ≡ seen up (fixed setup up keysTest s)
+  seen : Setup → (up : Bool) → Said → Said
+  follows : (setup : Setup) (up keysTest : Bool) (s : Said) → fixed setup up keysTest (tell s) ≡ seen setup up (fixed setup up keysTest s)
   same-audio : (s : Said) → audioSent (accepted (tell s)) ≡ audioSent (accepted s)
 
 abbrev aboveTestThen : Setup → List Call → Call → Bool
@@ -135,12 +137,12 @@ module _ (tell : Said → Said) (r : Retelling tell) where
   after-retold b (c ∷ cs) = after-retold (keeping b c .bench) cs
 
   compared-retold : (setup : Setup) (c : Call) (b : Bench)
-      → compared setup c (retold tell b c) ≡ mapped (r .seen (liveAboveTest (keeping b c .bench) seatNumbers)) (compared setup c (keeping b c))
+      → compared setup c (retold tell b c) ≡ mapped (r .seen setup (liveAboveTest (keeping b c .bench) seatNumbers)) (compared setup c (keeping b c))
   unfolding compared
   compared-retold setup c b = by-answer _ _ (keeping b c .answer)
     where
       by-answer : (up keysTest : Bool) (a : Answer Said)
-          → mapped (fixed setup up keysTest) (mapped tell a) ≡ mapped (r .seen up) (mapped (fixed setup up keysTest) a)
+          → mapped (fixed setup up keysTest) (mapped tell a) ≡ mapped (r .seen setup up) (mapped (fixed setup up keysTest) a)
       by-answer up keysTest (accepted s) = ap accepted (r .follows setup up keysTest s)
       by-answer up keysTest (refused n cause) = refl
 
@@ -156,7 +158,7 @@ module _ (tell : Said → Said) (r : Retelling tell) where
         together = lessons-apart setup xs ys e .together;
         same = λ c live.
             compared-retold setup c (after keeping (freshBench setup) xs)
-            ∙ ap₂ (λ (up : Bool) (a : Answer Said). mapped (r .seen up) a) (together-after c) (lessons-apart setup xs ys e .same c live)
+            ∙ ap₂ (λ (up : Bool) (a : Answer Said). mapped (r .seen setup up) a) (together-after c) (lessons-apart setup xs ys e .same c live)
             ∙ sym (compared-retold setup c (after keeping (freshBench setup) ys));
         no-lesson-audio = λ n p hidden up missing reply standby sound said.
             ap audioSent (sym said) ∙ audio-retold (keeping (after keeping (freshBench setup) xs) (packet n p) .answer)
@@ -167,42 +169,61 @@ module _ (tell : Said → Said) (r : Retelling tell) where
       together-after c =
           together-then setup xs c ∙ ap (λ (run : List Call). aboveTestThen setup run c) e ∙ sym (together-then setup ys c)
 
+-- the same bytes for each due seat; what is seen of them comes from the due live seats alone
+abbrev bytesFor : List ℕ → List Bool → List (List ℕ)
+bytesFor bytes due = map (λ d. cond d bytes []) due
+
+bytes-seen : (setup : Setup) (up : Bool) (bytes : List ℕ) (due : List Bool)
+    → recordsSeen setup up (bytesFor bytes due) ≡ recordsSeen setup up (bytesFor bytes (amongLive setup due))
+unfolding recordsSeen
+bytes-seen setup up bytes due = live-alike setup (λ hidden r. cond hidden [] r) (λ x y. refl) _ _
+    (λ n real live. ap (asSeen up)
+    (map-place (λ d. cond d bytes []) false refl due (n - 1)
+    ∙ ap (λ (d : Bool). cond d bytes []) (sym (flag-compared setup n real live due))
+    ∙ sym (map-place (λ d. cond d bytes []) false refl (amongLive setup due) (n - 1))))
+
 bytes-retelling : (bytes : List ℕ) → Retelling (withBytes bytes)
 unfolding fixed audioSent
-bytes-retelling bytes = record { seen = λ up. withBytes (cond up bytes (blotted bytes)); follows = follows; same-audio = same-audio }
+bytes-retelling bytes = record { seen = seen; follows = follows; same-audio = same-audio }
   where
-    follows : (setup : Setup) (up keysTest : Bool) (s : Said)
-        → fixed setup up keysTest (withBytes bytes s) ≡ withBytes (cond up bytes (blotted bytes)) (fixed setup up keysTest s)
+    seen : Setup → (up : Bool) → Said → Said
+    seen setup up done = done
+    seen setup up (own id) = own id
+    seen setup up (heard missing reply standby sound) = heard missing reply standby sound
+    seen setup up (ticked closed due records) = ticked closed due (recordsSeen setup up (bytesFor bytes due))
+    seen setup up (written told) = written (asSeen up bytes)
+
+    follows : (setup : Setup) (up keysTest : Bool) (s : Said) → fixed setup up keysTest (withBytes bytes s) ≡ seen setup up (fixed setup up keysTest s)
     follows setup up keysTest done = refl
     follows setup up keysTest (own id) = refl
     follows setup up keysTest (heard missing reply standby sound) = refl
-    follows setup up keysTest (ticked closed due) = refl
+    follows setup up keysTest (ticked closed due records) = ap (ticked (amongLive setup closed) (amongLive setup due)) (bytes-seen setup up bytes due)
     follows setup up keysTest (written told) = refl
 
     same-audio : (s : Said) → audioSent (accepted (withBytes bytes s)) ≡ audioSent (accepted s)
     same-audio done = refl
     same-audio (own id) = refl
     same-audio (heard missing reply standby sound) = refl
-    same-audio (ticked closed due) = refl
+    same-audio (ticked closed due records) = refl
     same-audio (written told) = refl
 
 count-retelling : (count : ℕ) → Retelling (withCount count)
 unfolding fixed audioSent
-count-retelling count = record { seen = λ up. withCount count; follows = follows; same-audio = same-audio }
+count-retelling count = record { seen = λ setup up. withCount count; follows = follows; same-audio = same-audio }
   where
     follows : (setup : Setup) (up keysTest : Bool) (s : Said)
         → fixed setup up keysTest (withCount count s) ≡ withCount count (fixed setup up keysTest s)
     follows setup up keysTest done = refl
     follows setup up keysTest (own id) = refl
     follows setup up keysTest (heard missing reply standby sound) = refl
-    follows setup up keysTest (ticked closed due) = refl
+    follows setup up keysTest (ticked closed due records) = refl
     follows setup up keysTest (written told) = refl
 
     same-audio : (s : Said) → audioSent (accepted (withCount count s)) ≡ audioSent (accepted s)
     same-audio done = refl
     same-audio (own id) = refl
     same-audio (heard missing reply standby sound) = refl
-    same-audio (ticked closed due) = refl
+    same-audio (ticked closed due records) = refl
     same-audio (written told) = refl
 
 apart-alone : (w : WrongBench) → ApartAlone (wrong w)

@@ -22,8 +22,9 @@ use Rattle.demands.proofs.Bench.SeatAfter.{setup-kept}
 use Rattle.demands.proofs.Demand3.LessonSeats.{Held, held-call, held-fresh}
 use Rattle.demands.proofs.Demand3.BenchAir.{above-test-low}
 use Rattle.demands.proofs.Demand3.LessonCalls.{unseen}
-use Rattle.demands.proofs.Demand3.LiveCalls.{Match, match-plain, match-opening, match-closing, match-tick, match-side}
+use Rattle.demands.proofs.Demand3.LiveCalls.{Match, match-plain, match-opening, match-closing, match-side}
 use Rattle.demands.proofs.Demand3.LiveReports.{match-report}
+use Rattle.demands.proofs.Demand3.LiveTicks.{match-tick}
 use Rattle.demands.proofs.Demand3.LivePackets.{match-packet, no-lesson-audio}
 
 -- ---- what the benches of a run have
@@ -45,7 +46,7 @@ unfolding named
 matched b (opening n r) i live = match-opening b n r (i .held) live
 matched b (closing n) i live = match-closing b n live
 matched b (packet n p) i live = match-packet b n p (i .held) live
-matched b (tick ms) i live = match-tick b ms
+matched b (tick ms timestamp room) i live = match-tick b ms timestamp room (i .held)
 matched b (report n timestamp sound room) i live = match-report b (i .right) n timestamp sound room (i .held) live
 matched b (received signals level) i live =
     unfold does in match-plain (b .setup) (received signals level) (aired (withSignals b signals level)) _ done (unfold low in refl)

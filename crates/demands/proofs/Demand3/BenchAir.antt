@@ -14,7 +14,7 @@ use Rattle.record.specs.declared.setup.Setup.{Setup}
 use Rattle.record.specs.declared.seat.Seat.{Seat}
 use Rattle.record.specs.declared.whole.Bench.{Bench}
 use Rattle.demands.specs.Apart.{pttOf, liveAboveTest}
-use Rattle.record.proofs.Seats.{lesson-flag, seat-of-place}
+use Rattle.record.proofs.Seats.{lesson-flag, open-is-seat, seat-of-place}
 use Rattle.demands.proofs.Demand3.WithoutLessons.{low, live-seat}
 use Rattle.demands.proofs.Demand3.LiveAir.{liveKeyings, keyings-low, TestAtMost, Up, air-same}
 use Rattle.demands.proofs.Demand3.LessonSeats.{Held}
@@ -24,12 +24,8 @@ unfolding lesson
 lesson-real setup n hidden = not-true (noSuchSeat n) (and-left (not (noSuchSeat n)) (getD (setup .lesson) (n - 1) false) hidden)
 
 part-real : (healthy : Bool) (seats : List Seat) (n : ℕ) → takesPart healthy (seatOf seats n) ≡ true → noSuchSeat n ≡ false
-unfolding takesPart seatOf
-part-real healthy seats n h = by-number (noSuchSeat n) refl (and-right healthy (seatOf seats n .opened) (and-left (healthy && seatOf seats n .opened) _ h))
-  where
-    by-number : (t : Bool) → noSuchSeat n ≡ t → seatOf seats n .opened ≡ true → noSuchSeat n ≡ false
-    by-number true none e = absurd (false≢true (rw none at e))
-    by-number false real e = real
+unfolding takesPart
+part-real healthy seats n h = open-is-seat seats n (and-right healthy (seatOf seats n .opened) (and-left (healthy && seatOf seats n .opened) _ h))
 
 -- ---- lesson keyings are Test at most
 

@@ -17,6 +17,7 @@ use Rattle.seats.specs.Ticking.{tickedSeat, tickedBench}
 use Rattle.air.specs.Air.{rank, among, aired}
 use Rattle.hearing.specs.Hearing.{pttOn, keyingBarred, messageIn, heardSeat, fieldHeard, heardBench}
 use Rattle.reporting.specs.Reporting.{reportedBench}
+use Rattle.sending.specs.Sending.{sentBench}
 use Rattle.bench.specs.Step.{Call, opening, closing, packet, tick, report, received, transmitter, side, keeping}
 use Rattle.record.specs.declared.setup.Setup.{Setup}
 use Rattle.record.specs.declared.seat.Seat.{Seat}
@@ -91,7 +92,7 @@ held-heard b n p h i =
     calm : lesson (b .setup) n ≡ true → rank (messageIn p .ptt) ≤ 1
     calm e = test-at-most (messageIn p) (seatOf (b .seats) n .call) (rw e at (h .may-key))
 
-held-ticked : (b : Bench) (ms : ℕ) → Held b → Held (tickedBench b ms)
+pub held-ticked : (b : Bench) (ms : ℕ) → Held b → Held (tickedBench b ms)
 unfolding tickedBench
 held-ticked b ms i = held-seats b _ i (λ k e. ticked k (i .meek k e))
   where
@@ -99,7 +100,7 @@ held-ticked b ms i = held-seats b _ i (λ k e. ticked k (i .meek k e))
     ticked k h = unfold tickedSeat in rw (List·getD-map (tickedSeat ms) (b .seats) k closedSeat) (meek-ticked ms (getD (b .seats) k closedSeat) h)
 
 -- the air of the record has no part in it
-held-aired : (b : Bench) → Held b → Held (aired b)
+pub held-aired : (b : Bench) → Held b → Held (aired b)
 held-aired b i = record { meek = i .meek; placed = i .placed }
 
 held-made : (b : Bench) (c : Call) → Held b → NoCase (refusalsOf b c) → Held (benchAfter b c)
@@ -107,7 +108,7 @@ held-made b (opening n r) i none = held-aired _ (held-opened b n r (open-accepte
 held-made b (closing n) i none =
     unfold closedBench in held-aired _ (held-seats b _ i (meek-put (b .setup .lesson) (b .seats) (n - 1) closedSeat (i .meek) (λ e. meek-closed)))
 held-made b (packet n p) i none = held-aired _ (held-heard b n p (packet-accepted (b .setup) n (seatOf (b .seats) n) p none) i)
-held-made b (tick ms) i none = held-aired _ (held-ticked b ms i)
+held-made b (tick ms timestamp room) i none = let h = held-ticked b ms i in unfold sentBench in record { meek = h .meek; placed = h .placed }
 held-made b (report n timestamp sound room) i none = unfold reportedBench in record { meek = i .meek; placed = i .placed }
 held-made b (received signals level) i none = record { meek = i .meek; placed = i .placed }
 held-made b (transmitter healthy) i none = record { meek = i .meek; placed = i .placed }

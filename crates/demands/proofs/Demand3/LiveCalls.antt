@@ -1,28 +1,26 @@
 -- A call that names no lesson seat does to the bench without its lesson seats what it does to the bench.
-use Prim.Native.Nat.{ℕ, suc, _-_}
-use mathlib.Core.Path.{_≡_, refl, sym, ap, ap₂, subst, _∙_}
-use mathlib.Core.Bool.{Bool, true, false, not, _&&_}
-use mathlib.Core.List.{List, [], _∷_, map}
+use Prim.Native.Nat.{ℕ, suc}
+use mathlib.Core.Path.{_≡_, refl, sym, subst}
+use mathlib.Core.Bool.{Bool, true, false}
+use mathlib.Core.List.{List, [], _∷_}
 use lib.Dec.{eqb}
 use lib.ListN.{getD}
-use Rattle.base.proofs.Places.{map-place}
 use Rattle.packet.specs.Packet.{test}
 use Rattle.packet.specs.Refusals.{Case, NoCase, accepted, judged, mapped}
 use Rattle.record.specs.Record.{seatOf, seatNumbers, noSuchSeat, closedSeat, lesson, withSide}
 use Rattle.air.specs.Air.{aired}
 use Rattle.seats.specs.Opening.{anyCoupling, openRefusals, openSaid, openedBench, seatRefusals, closeSaid, closedBench, seatVerdict}
-use Rattle.seats.specs.Ticking.{fallsSilent, isDue, tickedSeat, tooLong, tickRefusals, tickSaid, tickSets, tickedBench}
 use Rattle.seats.specs.Radio.{sideRefusals, sideSaid}
-use Rattle.bench.specs.Step.{Call, opening, closing, tick, side, Said, done, own, ticked, Outcome, outcome, does, step, keeping}
+use Rattle.bench.specs.Step.{Call, opening, closing, side, Said, done, own, Outcome, outcome, does, step, keeping}
 use Rattle.record.specs.declared.setup.Setup.{Setup}
 use Rattle.record.specs.declared.seat.Seat.{Seat}
 use Rattle.record.specs.declared.whole.Bench.{Bench}
 use Rattle.seats.specs.declared.opening.Request.{Request}
-use Rattle.demands.specs.Apart.{named, pttOf, liveAboveTest, amongLive, fixed}
-use Rattle.demands.proofs.Demand3.Blanking.{blank, set-elsewhere, map-blank, blank-elsewhere}
+use Rattle.demands.specs.Apart.{named, pttOf, liveAboveTest, fixed}
+use Rattle.demands.proofs.Demand3.Blanking.{blank, set-elsewhere}
 use Rattle.packet.proofs.Judged.{judged-both}
 use Rattle.record.proofs.Seats.{lesson-flag}
-use Rattle.demands.proofs.Demand3.WithoutLessons.{low, liveSeats, live-seat}
+use Rattle.demands.proofs.Demand3.WithoutLessons.{low, live-seat}
 use Rattle.demands.proofs.Demand3.LessonSeats.{Meek, Held}
 
 -- what of the answer to a call is compared
@@ -83,46 +81,6 @@ match-closing b n live =
   where
     closed-low : noSuchSeat n ≡ false → closedBench (low b) n ≡ low (aired (closedBench b n))
     closed-low real = unfold closedBench low in simp (set-elsewhere closedSeat, lesson-flag (b .setup) n real, live)
-
--- ---- tick
-
--- functions that agree on the seats
-seats-alike : (f g : ℕ → Bool) → ((n : ℕ) → noSuchSeat n ≡ false → f n ≡ g n) → map f seatNumbers ≡ map g seatNumbers
-seats-alike f g h = cc (h 1 refl, h 2 refl, h 3 refl, h 4 refl, h 5 refl, h 6 refl, h 7 refl, h 8 refl)
-
--- flags of seats, without the lesson seats
-flags-live : (setup : Setup) (seats : List Seat) (f : Seat → Bool) → f closedSeat ≡ false
-    → amongLive setup (map f (liveSeats setup seats)) ≡ amongLive setup (map f seats)
-unfolding amongLive
-flags-live setup seats f shut = seats-alike _ _ (λ n real. by-seat n real (lesson setup n) refl)
-  where
-    by-seat : (n : ℕ) → noSuchSeat n ≡ false → (t : Bool) → lesson setup n ≡ t
-        → not (lesson setup n) && getD (map f (liveSeats setup seats)) (n - 1) false ≡ not (lesson setup n) && getD (map f seats) (n - 1) false
-    by-seat n real true e = rw e
-    by-seat n real false e =
-        rw e
-        (map-place f closedSeat shut (liveSeats setup seats) (n - 1)
-        ∙ ap f (blank-elsewhere closedSeat (setup .lesson) seats (n - 1) (lesson-flag setup n real ∙ e))
-        ∙ sym (map-place f closedSeat shut seats (n - 1)))
-
-pub match-tick : (b : Bench) (ms : ℕ) → Match (b .setup) (tick ms) (keeping b (tick ms)) (step (low b) (tick ms))
-unfolding does tickSaid
-match-tick b ms =
-    match-judged (b .setup) (tick ms) b (aired (tickedBench b ms)) (tickedBench (low b) ms) (tickRefusals ms) (tickRefusals ms) tt tt _ _ refl
-    (λ h. record {
-      bench = ticked-low;
-      answer = unfold fixed in ap accepted (sets-alike (unfold tickRefusals in h .0));
-    })
-  where
-    ticked-low : tickedBench (low b) ms ≡ low (aired (tickedBench b ms))
-    ticked-low = unfold tickedBench low tickedSeat in simp (map-blank closedSeat (tickedSeat ms) refl (b .setup .lesson) (b .seats))
-
-    sets-alike : tooLong ms ≡ false
-        → ticked (amongLive (b .setup) (tickSets (low b) ms .closed)) (amongLive (b .setup) (tickSets (low b) ms .due))
-        ≡ ticked (amongLive (b .setup) (tickSets b ms .closed)) (amongLive (b .setup) (tickSets b ms .due))
-    sets-alike e =
-        unfold tickSets low fallsSilent isDue in
-        simp e (ap₂ ticked (flags-live (b .setup) (b .seats) (fallsSilent ms) refl) (flags-live (b .setup) (b .seats) (isDue ms) refl))
 
 -- ---- the radio's own events
 

@@ -1,18 +1,13 @@
 -- A report to a live seat, from a bench whose air is right and from that bench without its lesson seats, whose air is worked out.
-use Prim.Native.Nat.{ℕ, _+_, _*_, _-_, _≤_}
+use Prim.Native.Nat.{ℕ, _-_, _≤_}
 use mathlib.Core.Path.{_≡_, refl, sym, ap, ap₂, _∙_}
-use mathlib.Core.Bool.{Bool, true, false, cond, _&&_}
+use mathlib.Core.Bool.{Bool, true, false}
 use mathlib.Core.List.{List}
 use native.Mathlib.Omega.{arith}
 use lib.ListN.{length, getD}
-use Rattle.base.specs.Bytes.{bit}
 use Rattle.packet.specs.Refusals.{NoCase, accepted}
-use Rattle.writer.specs.Writing.{fromRx, risingItems, itemBytes, fewestWords, encode}
-use Rattle.packet.specs.Items.{rssi}
-use Rattle.packet.specs.Quality.{quality}
-use Rattle.packet.specs.declared.message.SqiItem.the-variants as sqi
+use Rattle.writer.specs.Writing.{fromRx, encode}
 use Rattle.packet.specs.declared.message.ClimaxItem.the-variants as climax
-use Rattle.packet.specs.declared.message.Items.{Items}
 use Rattle.packet.specs.declared.message.Message.{Message}
 use Rattle.packet.specs.declared.message.Rx.{Rx}
 use Rattle.record.specs.Record.{seatNumbers, noSuchSeat, seatOf, lesson}
@@ -23,14 +18,14 @@ use Rattle.bench.specs.Step.{report, written, does, step, keeping}
 use Rattle.record.specs.declared.seat.Seat.{Seat}
 use Rattle.record.specs.declared.whole.Bench.{Bench}
 use Rattle.demands.specs.AirKept.{AirRight}
-use Rattle.demands.specs.Apart.{liveAboveTest, blotted, fixed}
+use Rattle.demands.specs.Apart.{liveAboveTest, blotted, asSeen, fixed}
 use Rattle.demands.proofs.Demand3.Blanking.{set-elsewhere}
 use Rattle.demands.proofs.Demand3.Blotted.{calm, blotted-calm}
-use Rattle.writer.proofs.Written.{encoded-length}
 use Rattle.record.proofs.Seats.{lesson-flag}
 use Rattle.air.proofs.Bounds.{ptt-most}
 use Rattle.reporting.proofs.Accepted.{report-accepted}
 use Rattle.reporting.proofs.Told.{id-told-most}
+use Rattle.reporting.proofs.ReportLength.{report-long}
 use Rattle.demands.proofs.Demand3.WithoutLessons.{low, seat-low, sequence-low}
 use Rattle.demands.proofs.Demand3.LessonSeats.{Held}
 use Rattle.demands.proofs.Demand3.BenchAir.{up-is, air-low}
@@ -45,30 +40,6 @@ type-told b right n timestamp = rw right (ptt-most b)
 id-told : (b : Bench) → AirRight b → (n timestamp : ℕ) → noSuchSeat n ≡ false → reportOf b n timestamp .id ≤ 63
 unfolding reportOf
 id-told b right n timestamp real = rw right (omega (arith, id-told-most b n real))
-
--- ---- the length of a report: by signals, kind of radio and audio alone
-
-abbrev pub reportLength : (signals : ℕ) (pair : Bool) (sound : ℕ) → ℕ
-reportLength signals pair sound = 20 + 4 * bit (squTold signals && pair) + sound
-
-itemsTold : (squ pair standby : Bool) (q : ℕ) → Items
-itemsTold squ pair standby q = record { sqi = cond squ (sqi.Is q rssi) sqi.Absent; climax = climax.Absent; side = sideTold pair standby }
-
-words-told : (squ pair standby : Bool) (q : ℕ) → fewestWords (risingItems (itemsTold squ pair standby q)) ≡ 1 + bit (squ && pair)
-unfolding risingItems itemsTold itemBytes
-words-told true true true q = refl
-words-told true true false q = refl
-words-told true false standby q = refl
-words-told false true true q = refl
-words-told false true false q = refl
-words-told false false standby q = refl
-
-pub report-long : (b : Bench) (n timestamp : ℕ) (sound : List ℕ)
-    → length (reportBytes b n timestamp sound) ≡ reportLength (b .signals) (b .setup .pair) (length sound)
-unfolding reportBytes reportOf itemsTold
-report-long b n timestamp sound =
-    let words = words-told (squTold (b .signals)) (b .setup .pair) (b .standby) (quality (b .level)) in
-    omega (arith, encoded-length (b .setup .ext) (fromRx (reportOf b n timestamp)) sound)
 
 -- ---- the report without the three
 
@@ -92,7 +63,7 @@ unfolding calm reportOf calmReport
 calm-report b n timestamp = refl
 
 -- what the bench without its lesson seats shows to a report
-abbrev alone : Bench → Bench
+abbrev pub alone : Bench → Bench
 alone b = aired (low b)
 
 module _ (b : Bench) (right : AirRight b) (n timestamp : ℕ) (live : lesson (b .setup) n ≡ false) (real : noSuchSeat n ≡ false) where
@@ -120,6 +91,12 @@ module _ (b : Bench) (right : AirRight b) (n timestamp : ℕ) (live : lesson (b 
         ∙ ap (λ (m : Message). encode (b .setup .ext) m sound) report-calm
         ∙ sym (blotted-calm (fromRx (reportOf b n timestamp)) (type-told b right n timestamp) (id-told b right n timestamp real) (b .setup .ext) sound)
 
+    -- so what is seen of it is the same, at any time
+    pub told-low : Held b → (while : Bool) → liveAboveTest b seatNumbers ≡ while
+        → asSeen while (reportBytes (alone b) n timestamp sound) ≡ asSeen while (reportBytes b n timestamp sound)
+    told-low i true up = bytes-low (air-low b i (up-is b i up))
+    told-low i false e = blotted-low
+
 -- ---- the call
 
 -- a report changes nobody's keying
@@ -140,12 +117,6 @@ module _ (b : Bench) (right : AirRight b) (n timestamp : ℕ) (sound : List ℕ)
   unfolding reportedBench
   reported-low real = simp (sequence-low b n live real) (unfold low in simp (set-elsewhere {A = ℕ} 0, lesson-flag (b .setup) n real, live))
 
-  told-low : noSuchSeat n ≡ false → (t : Bool) → liveAboveTest b seatNumbers ≡ t
-      → cond t (reportBytes (alone b) n timestamp sound) (blotted (reportBytes (alone b) n timestamp sound))
-      ≡ cond t (reportBytes b n timestamp sound) (blotted (reportBytes b n timestamp sound))
-  told-low real true up = bytes-low b right n timestamp live real sound (air-low b i (up-is b i up))
-  told-low real false e = blotted-low b right n timestamp live real sound
-
   real-seat : NoCase (reportRefusals b n timestamp sound room) → noSuchSeat n ≡ false
   real-seat h = report-accepted b n timestamp sound room h .is-seat
 
@@ -156,5 +127,5 @@ module _ (b : Bench) (right : AirRight b) (n timestamp : ℕ) (sound : List ℕ)
       (reportRefusals b n timestamp sound room) (reportRefusals (alone b) n timestamp sound room) _ _ _ _ refusals-low
       (λ h. record {
         bench = reported-low (real-seat h);
-        answer = ap (λ (r : List ℕ). accepted (written r)) (told-low (real-seat h) _ (sym (above-reported b n)));
+        answer = ap (λ (r : List ℕ). accepted (written r)) (told-low b right n timestamp live (real-seat h) sound i _ (sym (above-reported b n)));
       })

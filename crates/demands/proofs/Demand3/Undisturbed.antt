@@ -1,25 +1,27 @@
 -- While a live keying above Test is up the bench is, to live seats, one without lesson seats: a corollary of demand 3.
-use Prim.Native.Nat.{ℕ}
+use Prim.Native.Nat.{ℕ, _-_}
 use mathlib.Core.Path.{_≡_, refl, sym, ap, _∙_}
 use mathlib.Core.Bool.{Bool, true, false, cond}
 use mathlib.Core.List.{List, [], _∷_, _++_}
 use lib.Dec.{eqb}
+use lib.ListN.{getD}
 use Rattle.packet.specs.Packet.{test}
 use Rattle.packet.specs.Refusals.{Answer, accepted, refused, mapped}
 use Rattle.air.specs.Air.{benchAir}
-use Rattle.record.specs.Record.{seatNumbers, lesson, freshBench, settled}
+use Rattle.record.specs.Record.{seatNumbers, noSuchSeat, lesson, freshBench, settled}
 use Rattle.hearing.specs.Hearing.{packetSaid}
 use Rattle.reporting.specs.Reporting.{reportBytes, reportRefusals, reportSaid, reportedBench}
-use Rattle.bench.specs.Step.{Call, packet, report, Said, done, own, heard, ticked, written, told, does, keeping, after}
+use Rattle.bench.specs.Step.{Call, packet, tick, report, Said, done, own, heard, ticked, written, Outcome, told, does, keeping, after}
 use Rattle.record.specs.declared.setup.Setup.{Setup}
 use Rattle.record.specs.declared.whole.Bench.{Bench}
-use Rattle.demands.specs.Apart.{named, withoutLessons, pttOf, liveAboveTest, fixed, compared, Apart}
-use Rattle.demands.specs.Undisturbed.{audioSent, Undisturbed}
+use Rattle.demands.specs.Apart.{named, withoutLessons, pttOf, liveAboveTest, recordsSeen, fixed, compared, Apart}
+use Rattle.demands.specs.Undisturbed.{audioSent, recordTo, Undisturbed}
 use Rattle.packet.proofs.Judged.{judged-one}
-use Rattle.demands.proofs.Demand3.WithoutLessons.{low}
+use Rattle.demands.proofs.Demand3.WithoutLessons.{low, none-is-lesson}
 use Rattle.demands.proofs.Demand3.BenchAir.{up-is, air-low}
 use Rattle.demands.proofs.Demand3.Apart.{ran, reached, low-alike, lessons-apart}
 use Rattle.demands.proofs.Demand3.LiveReports.{above-reported}
+use Rattle.demands.proofs.Demand3.LiveTicks.{record-compared}
 
 -- ---- runs
 
@@ -80,6 +82,25 @@ report-whole setup b n timestamp sound room up =
     rw (above-after-report b n timestamp sound room ∙ up)
     (whole setup _ (λ k. written (reportBytes b n timestamp sound)) (λ x. refl) (reportSaid b n timestamp sound room))
 
+-- of a tick, the record of a live seat
+record-whole : (setup : Setup) (c : Call) (n : ℕ) → lesson setup n ≡ false → (o : Outcome) → liveAboveTest (o .bench) seatNumbers ≡ true
+    → recordTo n (compared setup c o) ≡ recordTo n (o .answer)
+unfolding compared fixed recordTo
+record-whole setup c n live o up = rw up (by-answer _ (o .answer))
+  where
+    by-seat : (records : List (List ℕ)) (t : Bool) → noSuchSeat n ≡ t
+        → cond t [] (getD (recordsSeen setup true records) (n - 1) []) ≡ cond t [] (getD records (n - 1) [])
+    by-seat records true none = refl
+    by-seat records false real = record-compared setup n real live true records
+
+    by-answer : (isTest : Bool) (a : Answer Said) → recordTo n (mapped (fixed setup true isTest) a) ≡ recordTo n a
+    by-answer isTest (accepted done) = refl
+    by-answer isTest (accepted (own id)) = refl
+    by-answer isTest (accepted (heard missing reply standby sound)) = refl
+    by-answer isTest (accepted (ticked closed due records)) = by-seat records (noSuchSeat n) refl
+    by-answer isTest (accepted (written bytes)) = refl
+    by-answer isTest (refused k cause) = refl
+
 -- ---- no audio
 
 pub none-sent : (a : Answer Said) → ((missing : ℕ) (reply standby : Bool) (sound : List ℕ) → a ≡ accepted (heard missing reply standby sound) → sound ≡ [])
@@ -88,7 +109,7 @@ unfolding audioSent
 none-sent (accepted done) h = refl
 none-sent (accepted (own id)) h = refl
 none-sent (accepted (heard missing reply standby sound)) h = h missing reply standby sound refl
-none-sent (accepted (ticked closed due)) h = refl
+none-sent (accepted (ticked closed due records)) h = refl
 none-sent (accepted (written bytes)) h = refl
 none-sent (refused n cause) h = refl
 
@@ -121,6 +142,10 @@ undisturbed setup run =
           sym (report-whole setup (ran setup run) n timestamp sound room up)
           ∙ apart setup run .same (report n timestamp sound room) (unfold named in live)
           ∙ report-whole setup (ran setup (withoutLessons setup run)) n timestamp sound room (sym (apart setup run .together) ∙ up);
+      records = λ ms timestamp room n live up. let c = tick ms timestamp room in
+          sym (record-whole setup c n live (keeping (ran setup run) c) up)
+          ∙ ap (recordTo n) (apart setup run .same c (unfold named in none-is-lesson setup))
+          ∙ record-whole setup c n live (keeping (ran setup alone) c) (sym (together-then setup run c) ∙ up);
     }
   where
     alone : List Call

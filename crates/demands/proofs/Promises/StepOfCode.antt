@@ -6,14 +6,17 @@ use denote.Ref.{now}
 use lib.ListN.{length, drop}
 use lib.Seq.{take-at}
 use Rattle.packet.specs.Refusals.{Answer, accepted, mapped}
-use Rattle.writer.specs.Writing.{filled}
+use Rattle.writer.specs.Writing.{filled, writtenAnswer}
+use Rattle.seats.specs.Ticking.{silentSeats, dueSeats}
 use Rattle.hearing.specs.Hearing.{audioIn}
 use Rattle.reporting.specs.Reporting.{reportRefusals, reportSaid, reportBytes, reportBuffer}
-use Rattle.bench.specs.Step.{own, done, told, written, does}
+use Rattle.sending.specs.Sending.{tickRefusals, afterClosings, records, sentBytes, tickSaid, namedIn, tickSets, tickBuffer}
+use Rattle.bench.specs.Step.{Said, own, done, told, ticked, written, does}
 use Rattle.hearing.specs.declared.hearing.Hearing.{Hearing}
 use Rattle.record.specs.declared.whole.Bench.{Bench}
-use Rattle.demands.specs.StepOfCode.{did, wasDone, tickedSets, heardWith, inFront, StepOfCode}
+use Rattle.demands.specs.StepOfCode.{did, wasDone, heardWith, inFront, readBack, sentIn, StepOfCode}
 use Rattle.packet.proofs.Judged.{judged-one}
+use Rattle.demands.proofs.Promises.ReadBack.{read-back}
 
 -- the audio of the answer
 with-audio : (p : List ℕ) (answer said : Answer Hearing) → answer ≡ said → mapped (heardWith (audioIn answer p)) answer ≡ mapped (told said p) said
@@ -32,6 +35,25 @@ module _ (b : Bench) (n timestamp : ℕ) (sound buffer : List ℕ) where
       (reportRefusals b n timestamp sound (length buffer)) (length bytes) (λ number cause. refl)
       (λ none. ap (λ (front : List ℕ). accepted (written front)) (take-at bytes (drop (length bytes) buffer) (length bytes) refl))
 
+-- and the records of a tick, read back, are those that it tells
+module _ (b : Bench) (ms timestamp : ℕ) (buffer : List ℕ) where
+  abbrev sent : List ℕ
+  sent = sentBytes b ms timestamp
+
+  abbrev tells : ℕ → Said
+  tells used = ticked (silentSeats b ms) (dueSeats b ms) (records b ms timestamp)
+
+  told-in-records : mapped (sentIn (tickSets b ms timestamp (length buffer)) (tickBuffer b ms timestamp buffer)) (tickSaid b ms timestamp (length buffer))
+      ≡ mapped tells (tickSaid b ms timestamp (length buffer))
+  unfolding tickSaid tickSets tickBuffer sentBytes records
+  told-in-records =
+      judged-one (λ a. mapped (sentIn (namedIn a (record { closed = silentSeats b ms; due = dueSeats b ms })) (filled a sent buffer)) a ≡ mapped tells a)
+      (tickRefusals ms (length buffer)) (length sent) (λ number cause. refl)
+      (λ none.
+      ap (λ (rs : List (List ℕ)). accepted (ticked (silentSeats b ms) (dueSeats b ms) rs))
+      (ap (readBack (dueSeats b ms)) (take-at sent (drop (length sent) buffer) (length sent) refl)
+      ∙ read-back (afterClosings b ms) timestamp 1 (dueSeats b ms)))
+
 pub step-of-code : StepOfCode
 unfolding does
 step-of-code = record {
@@ -47,7 +69,11 @@ step-of-code = record {
   hears = λ k a r e p. ap₂ did (with-audio _ _ _ (p .0)) (p .1);
   hands-out = λ k a r e p. p .0;
   ticks = λ k a r e p.
-      ap₂ did (ap₂ (λ sets answer. mapped (tickedSets sets) answer) (p .1 .0) (p .0)) (p .1 .1);
+      ap₂ did
+      (ap₂ (λ sets left. mapped (sentIn sets left) (writtenAnswer (r .answer))) (p .1 .0) (p .1 .1 .0)
+      ∙ ap (mapped _) (p .0) ∙ told-in-records (a .0) (a .1 .0) (a .1 .1 .0) (now (a .1 .1 .1 .0)))
+      (p .1 .1 .1);
+  sends = λ k a r e p. (p .1 .1 .0, p .1 .0);
   reports = λ k a r e p.
       ap₂ did (ap₂ (λ left answer. mapped (inFront left) answer) (p .1 .0) (p .0) ∙ told-in-front (a .0) (a .1 .0) (a .1 .1 .0) _ (now (a .1 .1 .1 .1 .0))) (p .1 .1);
   leaves = λ k a r e p. p .1 .0;

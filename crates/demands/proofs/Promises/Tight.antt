@@ -10,10 +10,10 @@ use Rattle.text.specs.Text.{Written}
 use Rattle.text.proofs.Writing.{written-once}
 use Rattle.seats.specs.declared.opening.Opened.{Opened}
 use Rattle.seats.specs.declared.answer.Done.{Done}
-use Rattle.seats.specs.declared.ticking.Ticked.{Ticked}
+use Rattle.sending.specs.declared.sending.Ticked.{Ticked}
 use Rattle.hearing.specs.declared.hearing.Packeted.{Packeted}
 use Rattle.reporting.specs.declared.reporting.Reported.{Reported}
-use Rattle.demands.specs.Tight.{TightBase, TightPacket, TightItems, TightReader, TightWriter, TightRecord, TightSeats, TightAir, TightHearing, TightReporting, TightText, TightWords, TightShow, TightGrammar, Tight}
+use Rattle.demands.specs.Tight.{TightBase, TightPacket, TightItems, TightReader, TightWriter, TightRecord, TightSeats, TightAir, TightHearing, TightFraming, TightReporting, TightSending, TightText, TightWords, TightShow, TightGrammar, Tight}
 use Rattle.seats.proofs.TellApart.{open-tells, done-tells}
 use Rattle.hearing.proofs.TellApart.{packet-tells}
 
@@ -116,8 +116,10 @@ tight-seats = record {
   received = λ k a r s d e. meet;
   transmitter = λ k a r s d e. meet;
   side = λ k a r s d e p q. done-once (told done-tells (p .0) (q .0)) (meet (p .1) (q .1));
-  tick = λ k a r s d e p q. ticked-once (told done-tells (p .0) (q .0)) (meet (p .1 .0) (q .1 .0)) (meet (p .1 .1) (q .1 .1));
   silence-cause = λ k a r s d e. meet;
+  silent-seats = λ k a r s d e. meet;
+  due-seats = λ k a r s d e. meet;
+  ticked-bench = λ k a r s d e. meet;
 }
 
 pub tight-air : TightAir
@@ -137,6 +139,19 @@ tight-hearing = record {
 pub tight-reporting : TightReporting
 tight-reporting = record {
   report = λ k a r s d e p q. (reported-once (told written-tells (p .0) (q .0)) (meet (p .1 .1) (q .1 .1)), meet (p .1 .0) (q .1 .0));
+  report-of = λ k a r s d e. meet;
+  next-sequence = λ k a r s d e. meet;
+}
+
+pub tight-framing : TightFraming
+tight-framing = record {
+  put-length = λ k a r s d e p q. (meet (p .0) (q .0), meet (p .1) (q .1));
+}
+
+pub tight-sending : TightSending
+tight-sending = record {
+  tick = λ k a r s d e p q.
+      (ticked-once (told written-tells (p .0) (q .0)) (meet (p .1 .0) (q .1 .0)) (meet (p .1 .1 .1) (q .1 .1 .1)), meet (p .1 .1 .0) (q .1 .1 .0));
 }
 
 pub tight-text : TightText
@@ -192,7 +207,9 @@ tight = record {
   seats = tight-seats;
   air = tight-air;
   hearing = tight-hearing;
+  framing = tight-framing;
   reporting = tight-reporting;
+  sending = tight-sending;
   text = tight-text;
   words = tight-words;
   show = tight-show;

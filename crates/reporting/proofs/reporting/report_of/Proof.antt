@@ -1,30 +1,16 @@
 use mathlib.Core.Path.{_≡_}
 use mir.Val.{toZ, ofZ}
 use mir.Syntax.{w16}
-use Rattle.reporting.specs.Reporting.{reportOf}
-use Rattle.record.proofs.RecordLaws.{recordCases}
-use Rattle.record.proofs.Seats.{seat-of-place}
 use borrow.Author.Needs.{needs}
+use Rattle.reporting.specs.Reporting.{reportOf}
 use Rattle.reporting.proofs.reporting.report_of.Statement.{statement}
 use Rattle.reporting.proofs.reporting.report_of.Tie as tie
 
-sub-i : tie.Need-sub-i
-sub-i c = search recordCases
+seat-of-requires : tie.Need-seat-of-requires
+seat-of-requires c κs = search needs
 
-cast-i : tie.Need-cast-i
-cast-i c = search needs
-
-mul-s : tie.Need-mul-s
-mul-s c = search needs
-
-element-copy-out-s : tie.Need-element-copy-out-s
-element-copy-out-s c = search recordCases
-
-mul-t12 : tie.Need-mul-t12
-mul-t12 c = search needs
-
-element-copy-out-t18 : tie.Need-element-copy-out-t18
-element-copy-out-t18 c = search recordCases
+sequence-of-requires : tie.Need-sequence-of-requires
+sequence-of-requires c κs = search needs
 
 id-told-requires : tie.Need-id-told-requires
 id-told-requires c κs = search needs
@@ -38,13 +24,14 @@ side-told-requires c κs = search needs
 returns : tie.Need-returns
 unfolding reportOf
 returns c =
-    let level = c .before .before .before .before .before .before .before .before .before .before .args .t1 .level in
+    let level = c .before .before .before .before .before .before .before .before .before .before .before .before .before .before .args .b .level in
     let back : toZ w16 (ofZ w16 level) ≡ level = search needs in
     simp (
       c .side-told .ensures,
       c .before .sqi-told .ensures,
-      c .before .before .before .id-told .ensures,
-      seat-of-place (c .before .before .before .before .before .before .before .before .before .before .args .t1 .seats) (c .before .before .before .before .before .before .before .before .before .before .args .n) (c .before .before .before .before .before .before .before .before .before .before .pre),
+      c .before .before .before .before .id-told .ensures,
+      c .before .before .before .before .before .before .sequence-of .ensures,
+      c .before .before .before .before .before .before .before .before .before .before .before .seat-of .ensures,
       back,
     )
 
@@ -52,12 +39,8 @@ pub report-of-spec : {M : Type 1} → statement M
 report-of-spec =
     tie.close
     (tie.spec
-    sub-i
-    cast-i
-    mul-s
-    element-copy-out-s
-    mul-t12
-    element-copy-out-t18
+    seat-of-requires
+    sequence-of-requires
     id-told-requires
     sqi-told-requires
     side-told-requires

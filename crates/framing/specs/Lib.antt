@@ -1,0 +1,2 @@
+-- A packet behind its length.
+pub mod Framing

@@ -1,0 +1,2 @@
+-- What a tick does, tells and sends.
+pub mod Sending

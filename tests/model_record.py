@@ -1,0 +1,72 @@
+"""The record of document 01's bench, the air in it as in 02's fifth request, and what calls answer. Part of the model, see model.py."""
+
+from dataclasses import dataclass
+
+from model_packet import *
+
+IDLE, RXONLY, TXRX, COUPLING_CALL = "idle", "rxonly", "txrx", "coupling"
+
+
+@dataclass(frozen=True)
+class Setup:
+    # "Set-up: which seats are lesson seats (the others are live), the extension type, single radio
+    #  or pair, equal-rank mode (lockout or summation), coupling mode (interruption or summation)."
+
+    lessons: frozenset = frozenset({7, 8})
+    ext: int = 0x0167
+    pair: bool = True
+    equal_rank: str = "lockout"
+    coupling: str = "interruption"
+
+
+@dataclass
+class Seat:
+    """An open seat."""
+
+    number: int
+    call: str
+    period: int
+    multiplier: int
+    report_ssrc: int
+    report_sequence: int
+    left: int  # ms until it is closed by silence
+    since_due: int = 0  # ms ticked since its period last ran out
+    # "A seat just opened has heard nothing; its last field counts as all zero without items."
+    heard: bool = False
+    ssrc: int = None
+    sequence: int = None
+    last: Field = Field()
+    keying_began: int = None
+
+    @property
+    def own_id(self):
+        # "The answer is its own ptt-id: the seat number for TxRx and Coupling, else 0."
+        return self.number if self.call in (TXRX, COUPLING_CALL) else 0
+
+
+@dataclass(frozen=True)
+class PacketAnswer:
+    missing: int
+    reply: bool
+    side: int
+    audio: bytes
+
+
+@dataclass(frozen=True)
+class TickAnswer:
+    # 02: "It answers the closed seats, the due seats and the bytes used"
+    closed: tuple
+    due: tuple
+    sent: bytes
+
+
+@dataclass(frozen=True)
+class Air:
+    # 02: "Keep the on-air seats and the top type in the bench record"
+    on: tuple = ()
+    ptt: int = OFF
+
+
+def keyed(field):
+    # "PTT on and PM 0"
+    return field.ptt != OFF and field.pm == 0
