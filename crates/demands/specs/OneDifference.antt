@@ -2,7 +2,7 @@
 -- numbers, which may run further after two ticks". Both do occur, in a computed run.
 use Prim.Native.Nat.{ℕ}
 use mathlib.Core.Path.{_≡_}
-use mathlib.Core.Bool.{Bool, cond}
+use mathlib.Core.Bool.{cond}
 use mathlib.Core.List.{List, [], _∷_, _++_, map}
 use lib.ListN.{replicate}
 use Rattle.packet.specs.Refusals.{Answer, accepted}

@@ -2,7 +2,7 @@
 use Prim.Native.Nat.{ℕ, _+_, _*_, _≤_, _<_}
 use mathlib.Core.Path.{_≡_}
 use mathlib.Core.Bool.{true, false, _&&_}
-use mathlib.Core.List.{List, [], _∷_, map, _++_}
+use mathlib.Core.List.{[], _∷_, _++_, map}
 use mathlib.Core.Logic.{_↔_}
 use lib.IntN.{pos}
 use lib.ListN.{length, replicate}
@@ -13,7 +13,7 @@ use Rattle.record.specs.Record.{seatNumbers, freshBench}
 use Rattle.seats.specs.Ticking.{isDue}
 use Rattle.reporting.specs.Reporting.{squTold}
 use Rattle.sending.specs.Sending.{longestTick, mostSent, sentBytes}
-use Rattle.bench.specs.Step.{Call, tick, received, keeping, after}
+use Rattle.bench.specs.Step.{tick, received, keeping, after}
 use Rattle.record.specs.declared.setup.Setup.{Setup}
 use Rattle.record.specs.declared.whole.Bench.{Bench}
 use Rattle.demands.specs.LessonsSeen.{enters}

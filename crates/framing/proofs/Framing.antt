@@ -1,5 +1,5 @@
 -- A frame reads back; and a packet laid behind its place, then its length in front of it, are the frame.
-use Prim.Native.Nat.{ℕ, _-_, _≤_, _<_}
+use Prim.Native.Nat.{ℕ, _-_, _≤_}
 use mathlib.Core.Path.{_≡_, refl, ap, _∙_}
 use mathlib.Core.List.{List, _++_}
 use native.Mathlib.Omega.{arith}
@@ -8,7 +8,7 @@ use lib.Seq.{take-at, drop-at}
 use borrow.Rule.Slice.PartMut.{putMid}
 use Rattle.base.specs.Bytes.{bytes16, overlaid}
 use Rattle.base.proofs.Buffers.{overlaid-before}
-use Rattle.framing.specs.Framing.{framed, lengthRead, packetRead, restRead, ReadsBack, FramesReadBack}
+use Rattle.framing.specs.Framing.{framed, lengthRead, FramesReadBack}
 
 pub frames-read-back : FramesReadBack
 unfolding framed
