@@ -7,19 +7,17 @@ use mathlib.Core.Path.{_≡_}
 use mathlib.Core.Bool.{Bool, true, false, not, _&&_, _||_}
 use mathlib.Core.List.{List, [], _∷_, map}
 use mathlib.Core.Logic.{_↔_}
-use lib.Dec.{ltb}
 use lib.ListN.{length, getD, replicate}
-use Rattle.base.specs.Lists.{howMany}
-use Rattle.packet.specs.Refusals.{accepted}
+use Rattle.packet.specs.Refusals.{NoCase, accepted}
 use Rattle.record.specs.Record.{noSuchSeat, seatOf, withSequences}
 use Rattle.seats.specs.Ticking.{silentSeats, dueSeats}
-use Rattle.sending.specs.Sending.{tooLong, mostSent, records, reportedTo, noSeats, tickBuffer, runsFurther}
+use Rattle.sending.specs.Sending.{mostSent, tickRefusals, records, reportedTo, noSeats, tickBuffer, runsFurther}
 use Rattle.bench.specs.Step.{Call, tick, ticked, keeping, after}
 use Rattle.record.specs.declared.whole.Bench.{Bench}
 use Rattle.demands.specs.Kept.{Kept}
 use Rattle.demands.specs.AirKept.{AirRight}
 
--- A tick as it is called; and whether it is refused, which no bench decides.
+-- A tick as it is called; and ticks of which none is refused, which no bench decides.
 pub record Tick : Type 0 where
   pub ms : ℕ
   pub timestamp : ℕ
@@ -28,8 +26,12 @@ pub record Tick : Type 0 where
 abbrev pub called : Tick → Call
 called t = tick (t .ms) (t .timestamp) (t .room)
 
-abbrev pub isRefused : Tick → Bool
-isRefused t = tooLong (t .ms) || ltb (t .room) mostSent
+abbrev pub NotRefused : Tick → Type 0
+NotRefused t = NoCase (tickRefusals (t .ms) (t .room))
+
+abbrev pub NoneRefused : List Tick → Type 0
+NoneRefused [] = Unit {0}
+NoneRefused (t ∷ ts) = NotRefused t × NoneRefused ts
 
 -- What is told of one seat, by the first tick (₁), by the second (₂) and by the merged one; and whether it is open afterwards.
 pub record ToldAlike (closed₁ closed₂ closed due₁ due₂ due isOpen : Bool) : Type 0 where
@@ -71,12 +73,12 @@ pub record ZeroChangesNothing (b : Bench) (timestamp : ℕ) (buffer : List ℕ) 
 
 pub record TicksAddUp : Type 0 where
   -- Of any bench, whatever it holds: what a tick answers that is not refused, and that two of them may be merged.
-  pub told : (b : Bench) (t : Tick) → isRefused t ≡ false
+  pub told : (b : Bench) (t : Tick) → NotRefused t
       → keeping b (called t) .answer ≡ accepted (ticked (silentSeats b (t .ms)) (dueSeats b (t .ms)) (records b (t .ms) (t .timestamp)))
-  pub two-ticks : (b : Bench) (first second merged : Tick) → howMany isRefused (first ∷ second ∷ merged ∷ []) ≡ 0
+  pub two-ticks : (b : Bench) (first second merged : Tick) → NoneRefused (first ∷ second ∷ merged ∷ [])
       → first .ms + second .ms ≡ merged .ms → MayMerge b first second merged
   -- Runs of ticks that take the same time, each of some ticks and none refused, leave the same bench but for those numbers: merge at will.
-  pub same-time : (b : Bench) (x y : Tick) (xs ys : List Tick) → howMany isRefused (x ∷ xs) ≡ 0 → howMany isRefused (y ∷ ys) ≡ 0
+  pub same-time : (b : Bench) (x y : Tick) (xs ys : List Tick) → NoneRefused (x ∷ xs) → NoneRefused (y ∷ ys)
       → time (x ∷ xs) ≡ time (y ∷ ys) → butNumbers (after keeping b (map called (x ∷ xs))) ≡ butNumbers (after keeping b (map called (y ∷ ys)))
   -- Of every bench that calls lead to (Kept, AirKept). Of any other, with eight seats, exactly if the air in the record is right and each
   -- open seat has time left and a phase below its period.

@@ -9,11 +9,9 @@ use native.Mathlib.Nat.{add-zero}
 use lib.ListN.{length, getD, replicate, length-map}
 use lib.Seq.{ext-getD}
 use borrow.Author.Tests.{le-ltb}
-use Rattle.base.specs.Bytes.{bit}
-use Rattle.base.specs.Lists.{howMany}
 use Rattle.base.proofs.Places.{all-alike, map-place}
-use Rattle.base.proofs.Truths.{and-none, or-left, or-right}
-use Rattle.packet.specs.Refusals.{NoCase, Answer, accepted, judged}
+use Rattle.base.proofs.Truths.{and-none}
+use Rattle.packet.specs.Refusals.{Answer, accepted, judged}
 use Rattle.packet.proofs.Judged.{accepts}
 use Rattle.record.specs.Record.{noSuchSeat, closedSeat, seatOf, withSeats, withSequences, withAir}
 use Rattle.record.proofs.Seats.{seat-at, seat-changed}
@@ -22,7 +20,7 @@ use Rattle.air.specs.Air.{keyings, benchAir, aired}
 use Rattle.air.proofs.Kept.{air-unread}
 use Rattle.seats.specs.Ticking.{fallsSilent, isDue, tickedSeat, silentSeats, dueSeats, tickedBench}
 use Rattle.seats.proofs.TwoTicks.{seats-add, Fate, fate, closed-together, due-among-open, one-difference, none-alone, InTime, Unmoved, in-time-unmoved, unmoved-in-time}
-use Rattle.sending.specs.Sending.{tooLong, mostSent, tickRefusals, afterClosings, recordsFrom, records, inOrder, sentBytes, oneFurther, reportedTo, sentBench, noSeats, tickSaid, tickBuffer, runsFurther}
+use Rattle.sending.specs.Sending.{mostSent, tickRefusals, afterClosings, recordsFrom, records, inOrder, sentBytes, oneFurther, reportedTo, sentBench, noSeats, tickSaid, tickBuffer, runsFurther}
 use Rattle.sending.proofs.Numbers.{none-further}
 use Rattle.sending.proofs.TwoTicks.{sent-adds}
 use Rattle.bench.specs.Step.{ticked, Said, Outcome, keeping, after}
@@ -31,23 +29,19 @@ use Rattle.record.specs.declared.whole.Bench.{Bench}
 use Rattle.demands.specs.ExactCalls.{refusalsOf}
 use Rattle.demands.specs.Kept.{Kept}
 use Rattle.demands.specs.AirKept.{AirRight}
-use Rattle.demands.specs.TicksAddUp.{Tick, called, isRefused, ToldAlike, isIn, MayMerge, time, butNumbers, ZeroChangesNothing, TicksAddUp}
+use Rattle.demands.specs.TicksAddUp.{Tick, called, NotRefused, NoneRefused, ToldAlike, isIn, MayMerge, time, butNumbers, ZeroChangesNothing, TicksAddUp}
 use Rattle.demands.proofs.Demand1.Calls.{saidBy, call-answer, accepted-bench}
 
 -- ---- one tick
 
 -- a tick that is not refused
-module _ (b : Bench) (t : Tick) (fine : isRefused t ≡ false) where
-  no-case : NoCase (refusalsOf b (called t))
-  unfolding tickRefusals
-  no-case = (or-left (tooLong (t .ms)) _ fine, (or-right (tooLong (t .ms)) _ fine, tt))
-
+module _ (b : Bench) (t : Tick) (fine : NotRefused t) where
   told : keeping b (called t) .answer ≡ accepted (ticked (silentSeats b (t .ms)) (dueSeats b (t .ms)) (records b (t .ms) (t .timestamp)))
-  told = call-answer b (called t) ∙ accepts (saidBy b (called t)) (refusalsOf b (called t)) no-case
+  told = call-answer b (called t) ∙ accepts (saidBy b (called t)) (refusalsOf b (called t)) fine
 
   after-tick : after keeping b (called t ∷ []) ≡ aired (sentBench b (t .ms))
   unfolding after
-  after-tick = accepted-bench b (called t) no-case
+  after-tick = accepted-bench b (called t) fine
 
 -- what is told of a seat
 flag : (f : Seat → Bool) → f closedSeat ≡ false → (seats : List Seat) (n : ℕ) → isIn (map f seats) n ≡ f (seatOf seats n)
@@ -80,31 +74,24 @@ bench-adds b x y = ap aired (sent-adds x y b)
 alike : {c₁ c₂ c d₁ d₂ d up : Bool} → Fate c₁ c₂ c d₁ d₂ d up → ToldAlike c₁ c₂ c d₁ d₂ d up
 alike f = record { together = closed-together f; among-open = due-among-open f; one-difference = one-difference f; none-alone = none-alone f }
 
-none-of-both : (t : Bool) (k : ℕ) → bit t + k ≡ 0 → (t ≡ false) × (k ≡ 0)
-none-of-both true k e = absurd (omega arith)
-none-of-both false k e = (refl, (omega arith))
-
-two-ticks : (b : Bench) (first second merged : Tick) → howMany isRefused (first ∷ second ∷ merged ∷ []) ≡ 0 → first .ms + second .ms ≡ merged .ms
+two-ticks : (b : Bench) (first second merged : Tick) → NoneRefused (first ∷ second ∷ merged ∷ []) → first .ms + second .ms ≡ merged .ms
     → MayMerge b first second merged
-unfolding after howMany
-two-ticks b first second merged none same =
-    let all = none-of-both (isRefused first) (howMany isRefused (second ∷ merged ∷ [])) none in
-    let both = none-of-both (isRefused second) (howMany isRefused (merged ∷ [])) (all .1) in
-    let last = none-of-both (isRefused merged) 0 (both .1) in
+unfolding after
+two-ticks b first second merged (at-first, (at-second, (at-merged, end))) same =
     let x = first .ms in
     let y = second .ms in
     let then = aired (sentBench b x) in
     record {
       bench =
-          ap (λ (c : Bench). keeping c (called second) .bench) (after-tick b first (all .0))
-          ∙ after-tick then second (both .0)
+          ap (λ (c : Bench). keeping c (called second) .bench) (after-tick b first at-first)
+          ∙ after-tick then second at-second
           ∙ bench-adds b x y
           ∙ ap (λ (ms : ℕ). reportedTo (map (runsFurther x y) (b .seats)) (aired (sentBench b ms))) same
-          ∙ ap (reportedTo (map (runsFurther x y) (b .seats))) (sym (after-tick b merged (last .0)));
+          ∙ ap (reportedTo (map (runsFurther x y) (b .seats))) (sym (after-tick b merged at-merged));
       seats = λ n.
           rw (
-            after-tick b first (all .0),
-            after-tick b merged (last .0),
+            after-tick b first at-first,
+            after-tick b merged at-merged,
             sym same,
             closed-flag b x n,
             closed-flag then y n,
@@ -126,19 +113,18 @@ unfolding sentBench tickedBench benchAir keyings
 numbers-aside b x y = ap (λ (seats : List Seat). butNumbers (aired (withSeats b seats))) (seats-add x y (b .seats))
 
 -- and so do runs of them
-run-of-ticks : (b : Bench) (x : Tick) (xs : List Tick) → howMany isRefused (x ∷ xs) ≡ 0
+run-of-ticks : (b : Bench) (x : Tick) (xs : List Tick) → NoneRefused (x ∷ xs)
     → butNumbers (after keeping b (map called (x ∷ xs))) ≡ butNumbers (aired (tickedBench b (time (x ∷ xs))))
-unfolding after howMany time
-run-of-ticks b x [] e =
-    ap butNumbers (after-tick b x (none-of-both (isRefused x) 0 e .0))
+unfolding after time
+run-of-ticks b x [] none =
+    ap butNumbers (after-tick b x (none .0))
     ∙ (unfold sentBench benchAir keyings in ap (λ (ms : ℕ). butNumbers (aired (tickedBench b ms))) (sym (add-zero (x .ms))))
-run-of-ticks b x (y ∷ ys) e =
-    let none = none-of-both (isRefused x) (howMany isRefused (y ∷ ys)) e in
+run-of-ticks b x (y ∷ ys) none =
     ap (λ (c : Bench). butNumbers (after keeping c (map called (y ∷ ys)))) (after-tick b x (none .0))
     ∙ run-of-ticks (aired (sentBench b (x .ms))) y ys (none .1)
     ∙ numbers-aside b (x .ms) (time (y ∷ ys))
 
-same-time : (b : Bench) (x y : Tick) (xs ys : List Tick) → howMany isRefused (x ∷ xs) ≡ 0 → howMany isRefused (y ∷ ys) ≡ 0
+same-time : (b : Bench) (x y : Tick) (xs ys : List Tick) → NoneRefused (x ∷ xs) → NoneRefused (y ∷ ys)
     → time (x ∷ xs) ≡ time (y ∷ ys) → butNumbers (after keeping b (map called (x ∷ xs))) ≡ butNumbers (after keeping b (map called (y ∷ ys)))
 same-time b x y xs ys h k e = run-of-ticks b x xs h ∙ ap (λ (ms : ℕ). butNumbers (aired (tickedBench b ms))) e ∙ sym (run-of-ticks b y ys k)
 
@@ -188,8 +174,9 @@ module _ (b : Bench) (timestamp : ℕ) (buffer : List ℕ) (enough : mostSent �
   abbrev zeroTick : Tick
   zeroTick = record { ms = 0; timestamp = timestamp; room = length buffer }
 
-  fine : isRefused zeroTick ≡ false
-  fine = le-ltb (length buffer) mostSent enough
+  fine : NotRefused zeroTick
+  unfolding tickRefusals
+  fine = (refl, (le-ltb (length buffer) mostSent enough, tt))
 
   in-time-zero : length (b .seats) ≡ 8 → AirRight b → ((n : ℕ) → InTime (seatOf (b .seats) n)) → ZeroChangesNothing b timestamp buffer
   unfolding after tickSaid tickBuffer
@@ -201,7 +188,7 @@ module _ (b : Bench) (timestamp : ℕ) (buffer : List ℕ) (enough : mostSent �
             (after-tick b zeroTick fine ∙ ap aired (same-bench b eight in-time) ∙ ap (withAir b) (sym right));
         bytes =
             ap (λ (bytes : List ℕ). filled (judged (tickRefusals 0 (length buffer)) (length bytes)) bytes buffer) (nothing-sent b eight in-time timestamp)
-            ∙ ap (λ (said : Answer ℕ). filled said [] buffer) (accepts 0 (tickRefusals 0 (length buffer)) (no-case b zeroTick fine));
+            ∙ ap (λ (said : Answer ℕ). filled said [] buffer) (accepts 0 (tickRefusals 0 (length buffer)) fine);
       }
 
   zero-right : ZeroChangesNothing b timestamp buffer → AirRight b
