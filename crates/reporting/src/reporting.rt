@@ -92,7 +92,7 @@ fn written(b: Bench, n: u8, timestamp: u32, audio: &[u8], out: &mut [u8]) -> Rep
     }
 }
 
-// The report as a message, of any bench and any number: what is no seat's is told as a closed seat is.
+// The report as a message, of any bench and any number, also one that is no seat's.
 pub fn report_of(b: Bench, n: u8, timestamp: u32) -> Rx
     ensures { λ r. ⌜ r ≡ reportOf b n timestamp ⌝ }
 {
