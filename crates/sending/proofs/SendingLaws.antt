@@ -1,4 +1,4 @@
--- The loops of a tick, turn by turn: the records, each in what is left of the buffer, and the numbers of the seats that got one.
+-- A tick in its steps: one record, the loop that puts them, each in what is left of the buffer, the loop over the numbers, and the call.
 use Prim.Native.Nat.{ℕ, zero, suc, _+_, _-_, _≤_, _<_, min}
 use mathlib.Core.Path.{_≡_, refl, sym, ap, _∙_}
 use mathlib.Core.Bool.{Bool, true, false, cond}
@@ -36,15 +36,15 @@ use Rattle.sending.specs.Sending.{longestTick, mostSent, tickRefusals, a
 -- ---- one record
 
 module _ (shown : Bench) (timestamp n : ℕ) where
-  abbrev its-report : List ℕ
-  its-report = reportBytes shown n timestamp []
+  abbrev itsReport : List ℕ
+  itsReport = reportBytes shown n timestamp []
 
   -- what is put of the record of a seat that is due, and of one that is not
   module _ (due : Bool) where
-    pub due-length : (r : ℕ) → due ≡ true → r ≡ length (framed its-report) → r ≡ length (sentAs (recordFor shown timestamp n due))
+    pub due-length : (r : ℕ) → due ≡ true → r ≡ length (framed itsReport) → r ≡ length (sentAs (recordFor shown timestamp n due))
     due-length r e f = rw (e, report-framed shown timestamp n) f
 
-    pub due-put : (out left : List ℕ) → due ≡ true → left ≡ overlaid (framed its-report) out → left ≡ overlaid (sentAs (recordFor shown timestamp n due)) out
+    pub due-put : (out left : List ℕ) → due ≡ true → left ≡ overlaid (framed itsReport) out → left ≡ overlaid (sentAs (recordFor shown timestamp n due)) out
     due-put out left e f = rw (e, report-framed shown timestamp n) f
 
     pub no-length : due ≡ false → 0 ≡ length (sentAs (recordFor shown timestamp n due))
@@ -58,13 +58,13 @@ module _ (shown : Bench) (timestamp n : ℕ) where
     abbrev part : List ℕ
     part = take (length out - 2) (drop 2 out)
 
-    report-in : (put (shown .setup .ext) (fromRx m) [] (length part) ≡ accepted (length its-report))
-        × (afterPut (shown .setup .ext) (fromRx m) [] part ≡ overlaid its-report part)
+    report-in : (put (shown .setup .ext) (fromRx m) [] (length part) ≡ accepted (length itsReport))
+        × (afterPut (shown .setup .ext) (fromRx m) [] part ≡ overlaid itsReport part)
     unfolding reportBytes
     report-in =
         let long : 24 ≤ length part = simp (length-take, length-drop) (omega arith) in
         rw told
-        (written (shown .setup .ext) (fromRx (reportOf shown n timestamp)) [] part (length its-report)
+        (written (shown .setup .ext) (fromRx (reportOf shown n timestamp)) [] part (length itsReport)
         (encoded-length (shown .setup .ext) (fromRx (reportOf shown n timestamp)) []) (omega (arith, report-short shown n timestamp)))
 
     module _ {answer : Written} (answered : writtenAnswer answer ≡ put (shown .setup .ext) (fromRx m) [] (length part)) where
@@ -72,19 +72,19 @@ module _ (shown : Bench) (timestamp n : ℕ) where
       never-refused e = never _ _ _ (sym (report-in .0) ∙ sym answered ∙ ap writtenAnswer e)
 
       module _ {long : ℕ} (e : answer ≡ Length long) where
-        its-length : long ≡ length its-report
-        its-length = let same : accepted long ≡ accepted (length its-report) = sym (ap writtenAnswer e) ∙ answered ∙ report-in .0 in cc
+        its-length : long ≡ length itsReport
+        its-length = let same : accepted long ≡ accepted (length itsReport) = sym (ap writtenAnswer e) ∙ answered ∙ report-in .0 in cc
 
         pub its-most : long ≤ 24
         its-most = omega (arith, its-length, report-short shown n timestamp)
 
-        pub frame-length : 2 + long ≡ length (framed its-report)
+        pub frame-length : 2 + long ≡ length (framed itsReport)
         unfolding framed
         frame-length = omega (arith, its-length)
 
         pub its-frame : {left out₁ out₂ : List ℕ} → left ≡ afterPut (shown .setup .ext) (fromRx m) [] part → out₁ ≡ putMid 2 (length out - 2) out left
-            → out₂ ≡ overlaid (bytes16 long) out₁ → out₂ ≡ overlaid (framed its-report) out
-        its-frame f = length-last its-report out _ _ _ long its-length (omega arith) (f ∙ report-in .1)
+            → out₂ ≡ overlaid (bytes16 long) out₁ → out₂ ≡ overlaid (framed itsReport) out
+        its-frame f = length-last itsReport out _ _ _ long its-length (omega arith) (f ∙ report-in .1)
 
 -- ---- the records
 

@@ -72,7 +72,6 @@ single-frames b timestamp n (false ∷ ds) some = single-frames b timestamp (suc
 abbrev none : (k : ℕ) → List Bool
 none k = replicate k false
 
--- no number moves where no seat is reported to
 -- the number at place k first, and then those behind it
 further-then : (k : ℕ) (ds : List Bool) (qs : List ℕ)
     → oneFurther (none k ++ (true ∷ ds)) qs ≡ oneFurther (none (suc k) ++ ds) (set qs k (nextSequence (getD qs k 0)))
