@@ -14,7 +14,7 @@ import model
 import usage
 
 USAGE = {
-    "setup": "setup SEATS EXT single|pair lockout|summation interruption|summation",
+    "setup": "setup SEATS EXT single|pair|shared lockout|summation interruption|summation",
     "open": "open SEAT idle|rxonly|txrx|coupling PERIOD MULTIPLIER SSRC SEQUENCE",
     "close": "close SEAT",
     "tick": "tick MS TIMESTAMP ROOM",
@@ -110,7 +110,7 @@ def seats(word):
 
 
 ARGUMENTS = {
-    "setup": (seats, extension, one_of("single", "pair"), one_of("lockout", "summation"), one_of("interruption", "summation")),
+    "setup": (seats, extension, one_of("single", "pair", "shared"), one_of("lockout", "summation"), one_of("interruption", "summation")),
     "open": (byte, one_of("idle", "rxonly", "txrx", "coupling"), half, byte, whole, half),
     "close": (byte,),
     "tick": (half, whole, room),
@@ -184,8 +184,8 @@ class Console:
     def help(self):
         return "\n".join(USAGE.values())
 
-    def setup(self, lessons, ext, radio, equal_rank, coupling):
-        self.bench = model.Bench(model.Setup(lessons, ext, radio == "pair", equal_rank, coupling))
+    def setup(self, lessons, ext, kind, equal_rank, coupling):
+        self.bench = model.Bench(model.Setup(lessons, ext, kind, equal_rank, coupling))
         return "ok"
 
     def open(self, *given):

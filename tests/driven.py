@@ -110,7 +110,7 @@ class Random:
         r = self.r
         self.ext = r.choice([0x0167, 0x0167, 0, 0xFFFF])
         seats = "".join(str(n) for n in range(1, 9) if r.random() < 0.3) or "-"
-        return f"setup {seats} {self.ext:04x} {pick(r, 'single', 'pair', 'pair')} {pick(r, 'lockout', 'summation')} {pick(r, 'interruption', 'summation')}"
+        return f"setup {seats} {self.ext:04x} {pick(r, 'single', 'pair', 'pair', 'shared', 'shared')} {pick(r, 'lockout', 'summation')} {pick(r, 'interruption', 'summation')}"
 
     def open(self):
         r = self.r

@@ -1,5 +1,5 @@
-"""Document 01's bench, levels as in 02's third request, the air kept as in its fifth, ticks with their reports as in its sixth: its
-calls, who is on the air, reports. Part of the model, see model.py."""
+"""Document 01's bench, levels as in 02's third request, the air kept as in its fifth, ticks with their reports as in its sixth, the
+kinds of radio of its tenth: its calls, who is on the air, reports. Part of the model, see model.py."""
 
 from model_packet import *
 from model_record import *
@@ -96,8 +96,7 @@ class Bench:
             (21, lambda: self.keying_forbidden(seat, new)),
             # 22: "ptt-id not the seat's own; with PTT off 0 also passes"
             (22, lambda: new.id != seat.own_id and not (new.ptt == OFF and new.id == 0)),
-            # 23: "main/standby item .. on a single radio; main/standby item from a lesson seat"
-            (23, lambda: new.side is not None and (not self.setup.pair or self.lesson(n))),
+            (23, lambda: self.item_forbidden(n, new.side)),
         )
         if refused:
             return refused
@@ -111,7 +110,8 @@ class Bench:
 
         # "A main/standby item takes effect, setting the side in use, only where that seat's previous
         #  accepted packet carried the other value or no such item. Repeats do nothing."
-        if new.side is not None and new.side != old.side:
+        # 02, of a shared address: "An item of 0 is accepted and moves nothing"
+        if self.setup.kind != SHARED and new.side is not None and new.side != old.side:
             self.side_in_use = new.side
 
         # "A keying begins at the packet that brought the seat from off, muted or another type"
@@ -137,6 +137,13 @@ class Bench:
         if seat.call == TXRX and field.ptt == COUPLING:
             return True
         return self.lesson(seat.number) and field.ptt != TEST
+
+    def item_forbidden(self, n, item):
+        # 23: "main/standby item .. on a single radio; main/standby item from a lesson seat"; 02: "23 also for an item of 1 here;
+        # a lesson seat's item is still refused."
+        if item is None:
+            return False
+        return self.setup.kind == SINGLE or self.lesson(n) or (self.setup.kind == SHARED and item == STANDBY)
 
     # -- time
 
@@ -189,8 +196,8 @@ class Bench:
         self.keep_air()
 
     def side(self, side):
-        # "Side event 23": "side event on a single radio"
-        if not self.setup.pair:
+        # "Side event 23": "side event on a single radio"; 02: "the radio's own side event still moves the side"
+        if self.setup.kind == SINGLE:
             return Refused(23)
         self.side_in_use = side
         self.keep_air()
@@ -279,6 +286,6 @@ class Bench:
         sct = 1 if self.signals >= 2 else 0
         # "SQI item, method RSSI, exactly if SQU is 1"
         sqi = (quality(self.level), RSSI) if squ == 1 else None
-        # "Main/standby item, with the side in use, exactly for a pair."
-        side = self.side_in_use if self.setup.pair else None
+        # "Main/standby item, with the side in use, exactly for a pair."; 02: "with 0, whichever side is in use"
+        side = {SINGLE: None, PAIR: self.side_in_use, SHARED: 0}[self.setup.kind]
         return Field(ptt, squ, ptt_id, pm, ptts, sct, sqi, None, side)

@@ -1,10 +1,13 @@
-"""The record of document 01's bench, the air in it as in 02's fifth request, and what calls answer. Part of the model, see model.py."""
+"""The record of document 01's bench, with the air of 02's fifth request and the kinds of radio of its tenth, and what calls answer.
+Part of the model, see model.py."""
 
 from dataclasses import dataclass
 
 from model_packet import *
 
 IDLE, RXONLY, TXRX, COUPLING_CALL = "idle", "rxonly", "txrx", "coupling"
+# 01: "single radio or pair"; 02: "main and standby under a shared IP address .. a third radio kind"
+SINGLE, PAIR, SHARED = "single", "pair", "shared"
 
 
 @dataclass(frozen=True)
@@ -14,7 +17,7 @@ class Setup:
 
     lessons: frozenset = frozenset({7, 8})
     ext: int = 0x0167
-    pair: bool = True
+    kind: str = PAIR
     equal_rank: str = "lockout"
     coupling: str = "interruption"
 

@@ -17,6 +17,7 @@ import written
 from sessions_air import air, time
 from sessions_ddc import ddc_items
 from sessions_kept import kept_air
+from sessions_kinds import kinds
 from sessions_levels import levels
 from sessions_lines import lines
 from sessions_packets import packets
@@ -56,7 +57,7 @@ def main():
     folder = pathlib.Path(given[0]) if given else CRATE
     folder.mkdir(parents=True, exist_ok=True)
     s = Sessions()
-    for part in (printed_examples, traps, refusals, time, air, packets, ddc_items, levels, merged_ticks, kept_air, sending, lines):
+    for part in (printed_examples, traps, refusals, time, air, packets, ddc_items, levels, merged_ticks, kept_air, sending, kinds, lines):
         part(s)
     s.save(folder)
     print(f"{s.sessions} sessions, {len(s.lines)} lines, {len(s.answers)} answers; written to {folder}")

@@ -6,7 +6,7 @@ import random
 from handmade import built, some_ddc, words_of
 
 LESSONS = "78"
-MODES = list(itertools.product(("single", "pair"), ("lockout", "summation"), ("interruption", "summation")))
+MODES = list(itertools.product(("single", "pair", "shared"), ("lockout", "summation"), ("interruption", "summation")))
 # how often each call comes
 KINDS = {"packet": 40, "report": 26, "tick": 5, "open": 6, "close": 1, "received": 4, "transmitter": 2, "side": 2, "quality": 1, "air": 4}
 NAMES_A_SEAT = ("open", "close", "packet", "report")

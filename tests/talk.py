@@ -7,6 +7,7 @@ from model import OFF
 
 PAIR = "setup 78 0167 pair lockout interruption"
 SINGLE = "setup 78 0167 single lockout interruption"
+SHARED = "setup 78 0167 shared lockout interruption"
 SUMMATION = "setup 78 0167 pair summation interruption"
 COUPLING_SUMMATION = "setup 78 0167 pair lockout summation"
 ALL_SUMMATION = "setup 78 0167 pair summation summation"
@@ -93,9 +94,9 @@ class Sessions:
             self.next[seat] = before
 
     def report_size(self):
-        """A report has 20 bytes, 24 with both items: SQI while a signal is received, main/standby for a pair."""
+        """A report has 20 bytes, 24 with both items: SQI while a signal is received, main/standby on all but a single radio."""
         bench = self.console.bench
-        return 24 if bench.setup.pair and bench.signals > 0 else 20
+        return 24 if bench.setup.kind != model.SINGLE and bench.signals > 0 else 20
 
     def tick(self, ms, closed="-", due="-"):
         """A tick, the seats closed and those due in digits or `-`. It sends a report to each due seat, behind two bytes."""

@@ -16,6 +16,7 @@ use bench::OpenAnswer;
 use bench::PacketAnswer;
 use bench::Request;
 use bench::Setup;
+use bench::kind_code;
 use grammar::Call;
 use grammar::Lent;
 use grammar::ROOM;
@@ -98,10 +99,11 @@ fn told(bench: Bench, end: usize) -> Said {
 
 fn fresh(s: SetupSaid) -> Bench {
     let lesson = marks(s.lessons);
+    let kind = s.kind;
     Bench::fresh(Setup {
         lesson,
         ext: s.ext,
-        pair: s.pair,
+        kind: kind_code(kind),
         equal_summation: s.equal_summation,
         coupling_summation: s.coupling_summation,
     })

@@ -7,7 +7,9 @@ mod session;
 mod usage;
 
 use bench::Bench;
+use bench::Kind;
 use bench::Setup;
+use bench::kind_code;
 use session::Held;
 use session::LINE;
 use session::answered;
@@ -18,7 +20,7 @@ fn usual() -> Setup {
     Setup {
         lesson: [false, false, false, false, false, false, true, true],
         ext: 0x0167,
-        pair: true,
+        kind: kind_code(Kind::Pair),
         equal_summation: false,
         coupling_summation: false,
     }

@@ -11,7 +11,7 @@ fn usage(out: &mut [u8], at: usize, call: usize) -> usize {
         0 => put(
             out,
             at,
-            b"setup SEATS EXT single|pair lockout|summation interruption|summation",
+            b"setup SEATS EXT single|pair|shared lockout|summation interruption|summation",
         ),
         1 => put(
             out,

@@ -1,4 +1,4 @@
--- What the bench keeps through every call, its air among it, what one call does to one seat, that ticks add up, and what a tick sends. In the order in which they build on each other.
+-- What the bench keeps through every call, its air among it, what one call does to one seat, that ticks add up, what a tick sends, and a shared radio. In the order in which they build on each other.
 pub mod Runs
 pub mod SeatAfter
 pub mod Order
@@ -11,3 +11,4 @@ pub mod TicksAddUp
 pub mod AsSingles
 pub mod OneDifference
 pub mod Room
+pub mod SharedRadio

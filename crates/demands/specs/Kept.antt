@@ -9,16 +9,19 @@ use lib.ListN.{length, getD}
 use Rattle.base.specs.Bytes.{Bytes}
 use Rattle.base.specs.Lists.{howMany}
 use Rattle.packet.specs.Packet.{off, coupling, test}
+use Rattle.record.specs.Kind.{kindOf}
 use Rattle.record.specs.Record.{seatNumbers, nothingHeard, closedSeat, freshBench, seatOf, lesson}
 use Rattle.seats.specs.Opening.{mayKey, isCoupling, shortest, longest, fewest, most, holdsCoupling, ownId}
 use Rattle.bench.specs.Step.{Call, opening, closing, packet, tick, report, received, transmitter, side, keeping, after}
+use Rattle.record.specs.declared.kind.Kind.{Kind}
+use Rattle.record.specs.declared.kind.Kind.the-variants.{Single, Shared}
 use Rattle.record.specs.declared.setup.Setup.{Setup}
 use Rattle.record.specs.declared.seat.Field.{Field}
 use Rattle.record.specs.declared.seat.Seat.{Seat}
 use Rattle.record.specs.declared.whole.Bench.{Bench}
 
 -- The last field of a seat of that call type, with that ptt-id of its own.
-pub record FieldKept (isLesson pair : Bool) (call own : ℕ) (f : Field) : Type 0 where
+pub record FieldKept (isLesson : Bool) (kind : Kind) (call own : ℕ) (f : Field) : Type 0 where
   -- "6 and 7 are reserved and refused"
   pub type-known : f .ptt ≤ test
   -- not "PTT on for Idle or Rxonly; Coupling PTT for TxRx; lesson seat with PTT on other than Test"
@@ -28,8 +31,9 @@ pub record FieldKept (isLesson pair : Bool) (call own : ℕ) (f : Field) : Type 
   -- not "ptt-id not the seat's own; with PTT off 0 also passes"
   pub own-or-none : (f .id ≡ own) ⊎ (f .id ≡ 0)
   pub keyed-own : eqb (f .ptt) off ≡ false → f .id ≡ own
-  -- not "main/standby item .. on a single radio; main/standby item from a lesson seat"
-  pub no-item-single : pair ≡ false → f .sided ≡ false
+  -- not "main/standby item .. on a single radio", nor "an item of 1" on a shared one, nor "main/standby item from a lesson seat"
+  pub no-item-single : kind ≡ Single → f .sided ≡ false
+  pub zero-or-none-shared : kind ≡ Shared → f .standby ≡ false
   pub no-item-lesson : isLesson ≡ true → f .sided ≡ false
   -- the value of an item that is not there
   pub no-delay : f .delayed ≡ false → f .delay ≡ 0
@@ -55,7 +59,7 @@ pub record SeatKept (setup : Setup) (n : ℕ) (s : Seat) : Type 0 where
   pub lesson-not-coupling : lesson setup n ≡ true → isCoupling (s .call) ≡ false
   -- "A seat just opened has heard nothing; its last field counts as all zero without items."
   pub nothing-yet : s .heard .any ≡ false → s .heard ≡ nothingHeard
-  pub field-kept : FieldKept (lesson setup n) (setup .pair) (s .call) (ownId n (s .call)) (s .heard .field)
+  pub field-kept : FieldKept (lesson setup n) (kindOf (setup .kind)) (s .call) (ownId n (s .call)) (s .heard .field)
   pub sequence-fits : s .heard .sequence < 65536
   pub heard-ssrc-fits : s .heard .ssrc < 4294967296
   pub ssrc-fits : s .ssrc < 4294967296
@@ -72,7 +76,7 @@ pub record Kept (b : Bench) : Type 0 where
   -- not "Coupling asked while another seat is Coupling"
   pub one-coupling : (m n : ℕ) → holdsCoupling (seatOf (b .seats) m) ≡ true → holdsCoupling (seatOf (b .seats) n) ≡ true → m ≡ n
   -- not "side event on a single radio"
-  pub single-on-main : b .setup .pair ≡ false → b .standby ≡ false
+  pub single-on-main : kindOf (b .setup .kind) ≡ Single → b .standby ≡ false
 
 -- The numbers of a call fit the types that the code gives them (where it matters).
 abbrev pub InRange : Call → Type 0

@@ -11,8 +11,10 @@ use Rattle.writer.specs.Writing.{fromTx, encode}
 use Rattle.packet.specs.declared.message.ClimaxItem.the-variants as climax
 use Rattle.packet.specs.declared.message.SideItem.the-variants as side
 use Rattle.packet.specs.declared.message.Tx.{Tx}
+use Rattle.record.specs.Kind.{kindCode}
 use Rattle.record.specs.Record.{seatNumbers, freshBench}
 use Rattle.bench.specs.Step.{Call, opening, packet, report, Said, heard, written, keeping, after}
+use Rattle.record.specs.declared.kind.Kind.the-variants.{Single}
 use Rattle.record.specs.declared.setup.Setup.{Setup}
 use Rattle.seats.specs.declared.opening.CallType.the-variants.{TxRx}
 use Rattle.demands.specs.Examples.{around}
@@ -24,7 +26,7 @@ lab =
     record {
       lesson = false ∷ false ∷ false ∷ false ∷ false ∷ false ∷ false ∷ true ∷ [];
       ext = 0x0167;
-      pair = false;
+      kind = kindCode Single;
       «equal_summation» = false;
       «coupling_summation» = false;
     }

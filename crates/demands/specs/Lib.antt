@@ -20,6 +20,7 @@ pub mod Apart
 pub mod LessonsSeen
 pub mod OneDifference
 pub mod Room
+pub mod SharedRadio
 pub mod Undisturbed
 pub mod WrongBenches
 pub mod Tight

@@ -76,6 +76,12 @@ pub record TightWriter : Type 1 where
   pub put-rx : OneResultAndBuffer writer.put_rx.Reads.Learnt (λ k e. e .1 .1 .1 .0)
 
 pub record TightRecord : Type 1 where
+  pub kind-code : OneResult the-record.kind_code.Reads.Learnt
+  pub kind-of : OneResult the-record.kind.kind_of.Reads.Learnt
+  pub has-one-side : OneResult the-record.kind.has_one_side.Reads.Learnt
+  pub item-barred : OneResult the-record.kind.item_barred.Reads.Learnt
+  pub items-move-side : OneResult the-record.kind.items_move_side.Reads.Learnt
+  pub side-told : OneResult the-record.kind.side_told.Reads.Learnt
   pub opened : OneResult the-record.seat.Seat.opened.Reads.Learnt
   pub fresh : OneResult the-record.whole.Bench.fresh.Reads.Learnt
   pub no-such-seat : OneResult the-record.no_such_seat.Reads.Learnt

@@ -5,4 +5,5 @@
 // The bench: Kept, what it keeps through every call; AirKept, that its air is right in the record, and AnswersStay, that this changes no
 // answer; SeatAfter, what one call does to one seat; TicksAddUp, that ticks may be merged; OneDifference, what then is not told;
 // AsSingles, that a tick with its reports is a tick and single reports; Room, that 208 bytes are always enough for it.
+// Of a radio whose main and standby share an address: SharedRadio.
 // The code: StepOfCode and BothWays, its calls, readers and writers do as said; Tight, its promises leave one answer.

@@ -11,19 +11,19 @@ use Rattle.base.specs.Text.{text}
 use Rattle.words.specs.Input.{wordOf, lastOf, choiceOf, wordAt, leading, firstFrom, same}
 use Rattle.words.specs.Numbers.{numberIn, numberFrom, valueFrom, allDigits, digitOf}
 use Rattle.words.specs.Pairs.{bytesSaid, bytesLaid, saysBytes, isDash, isHex, bytesOf, pairs}
-use Rattle.grammar.specs.Said.{Said, Is, Not, _>>=_, byteIn, halfIn, wholeIn, hexIn, levelIn, countIn, roomIn, oneOf, flagIn, callTypeIn, sideIn, climaxIn, sqiIn, seatsIn}
+use Rattle.grammar.specs.Said.{Said, Is, Not, _>>=_, byteIn, halfIn, wholeIn, hexIn, levelIn, countIn, roomIn, oneOf, flagIn, kindIn, callTypeIn, sideIn, climaxIn, sqiIn, seatsIn}
 use Rattle.grammar.specs.declared.call.Call.{Call}
 use Rattle.grammar.specs.declared.call.Call.the-variants as call
 
--- "setup SEATS EXT single|pair lockout|summation interruption|summation"
+-- "setup SEATS EXT single|pair|shared lockout|summation interruption|summation"
 unfoldable pub setupIn : List ℕ → Said Call
 setupIn s = do
   lessons ← seatsIn (wordOf s 1)
   ext ← hexIn (wordOf s 2)
-  pair ← oneOf (wordOf s 3) (text "single pair") (false ∷ true ∷ [])
+  kind ← kindIn (wordOf s 3)
   equalSummation ← oneOf (wordOf s 4) (text "lockout summation") (false ∷ true ∷ [])
   couplingSummation ← oneOf (lastOf s 5) (text "interruption summation") (false ∷ true ∷ [])
-  Is (call.Setup (record { lessons = lessons; ext = ext; pair = pair; «equal_summation» = equalSummation; «coupling_summation» = couplingSummation }))
+  Is (call.Setup (record { lessons = lessons; ext = ext; kind = kind; «equal_summation» = equalSummation; «coupling_summation» = couplingSummation }))
 
 -- "open SEAT idle|rxonly|txrx|coupling PERIOD MULTIPLIER SSRC SEQUENCE"
 unfoldable pub openIn : List ℕ → Said Call

@@ -6,13 +6,15 @@ use lib.ListN.{getD}
 use Rattle.base.specs.Text.{text}
 use Rattle.words.specs.Input.{wordOf, lastOf, choiceOf}
 use Rattle.words.specs.declared.pairs.BytesRead.{BytesRead}
-use Rattle.grammar.specs.Said.{Said, Is, Not, _>>=_, byteIn, halfIn, wholeIn, hexIn, countSaid, roomIn, oneOf, callTypeIn, seatsIn, flagIn, sideIn, climaxIn, sqiIn}
+use Rattle.grammar.specs.Said.{Said, Is, Not, _>>=_, byteIn, halfIn, wholeIn, hexIn, countSaid, roomIn, oneOf, kindIn, callTypeIn, seatsIn, flagIn, sideIn, climaxIn, sqiIn}
 use Rattle.grammar.specs.Grammar.{closeIn, tickIn, receivedIn, transmitterIn, sideCallIn, qualityCallIn, airIn, helpIn}
 use Rattle.grammar.specs.declared.call.Call.{Call}
 use Rattle.grammar.specs.declared.call.Call.the-variants as call
 use Rattle.grammar.specs.declared.call.Lent.{Lent}
 use Rattle.grammar.specs.declared.pieces.BoolRead.{BoolRead}
 use Rattle.grammar.specs.declared.pieces.BoolRead.the-variants as bool
+use Rattle.grammar.specs.declared.pieces.KindRead.{KindRead}
+use Rattle.grammar.specs.declared.pieces.KindRead.the-variants as kind
 use Rattle.grammar.specs.declared.pieces.CallTypeRead.{CallTypeRead}
 use Rattle.grammar.specs.declared.pieces.CallTypeRead.the-variants as call-type
 use Rattle.grammar.specs.declared.pieces.RoomRead.{RoomRead}
@@ -47,6 +49,7 @@ use Rattle.packet.specs.declared.message.SideItem.{SideItem}
 use Rattle.packet.specs.declared.message.SqiItem.{SqiItem}
 use Rattle.packet.specs.declared.message.Tx.{Tx}
 use Rattle.packet.specs.declared.message.Rx.{Rx}
+use Rattle.record.specs.declared.kind.Kind.{Kind}
 use Rattle.seats.specs.declared.opening.CallType.{CallType}
 use Rattle.seats.specs.declared.opening.Request.{Request}
 
@@ -54,6 +57,10 @@ use Rattle.seats.specs.declared.opening.Request.{Request}
 abbrev pub boolSaid : BoolRead → Said Bool
 boolSaid (bool.Is v) = Is v
 boolSaid bool.Not = Not
+
+abbrev pub kindSaid : KindRead → Said Kind
+kindSaid (kind.Is v) = Is v
+kindSaid kind.Not = Not
 
 abbrev pub callTypeSaid : CallTypeRead → Said CallType
 callTypeSaid (call-type.Is v) = Is v
@@ -112,10 +119,10 @@ unfoldable pub modesIn : List ℕ → Said SetupSaid
 modesIn s = do
   lessons ← seatsIn (wordOf s 1)
   ext ← hexIn (wordOf s 2)
-  pair ← oneOf (wordOf s 3) (text "single pair") (false ∷ true ∷ [])
+  kind ← kindIn (wordOf s 3)
   equalSummation ← oneOf (wordOf s 4) (text "lockout summation") (false ∷ true ∷ [])
   couplingSummation ← oneOf (lastOf s 5) (text "interruption summation") (false ∷ true ∷ [])
-  Is (record { lessons = lessons; ext = ext; pair = pair; «equal_summation» = equalSummation; «coupling_summation» = couplingSummation })
+  Is (record { lessons = lessons; ext = ext; kind = kind; «equal_summation» = equalSummation; «coupling_summation» = couplingSummation })
 
 unfoldable pub requestIn : List ℕ → Said Request
 requestIn s = do

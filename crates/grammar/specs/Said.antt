@@ -26,6 +26,8 @@ use Rattle.packet.specs.declared.message.SideItem.{SideItem}
 use Rattle.packet.specs.declared.message.SideItem.the-variants as side
 use Rattle.packet.specs.declared.message.SqiItem.{SqiItem}
 use Rattle.packet.specs.declared.message.SqiItem.the-variants as sqi
+use Rattle.record.specs.declared.kind.Kind.{Kind}
+use Rattle.record.specs.declared.kind.Kind.the-variants as kind
 use Rattle.seats.specs.declared.opening.CallType.{CallType}
 use Rattle.seats.specs.declared.opening.CallType.the-variants as type
 
@@ -98,6 +100,9 @@ oneOf w words values = valueAt values (choiceOf w words)
 -- A bit: PM, PTTS, SQU, SCT.
 unfoldable pub flagIn : List ℕ → Said Bool
 flagIn w = oneOf w (text "0 1") (false ∷ true ∷ [])
+
+unfoldable pub kindIn : List ℕ → Said Kind
+kindIn w = oneOf w (text "single pair shared") (kind.Single ∷ kind.Pair ∷ kind.Shared ∷ [])
 
 unfoldable pub callTypeIn : List ℕ → Said CallType
 callTypeIn w = oneOf w (text "idle rxonly txrx coupling") (type.Idle ∷ type.RxOnly ∷ type.TxRx ∷ type.Coupling ∷ [])

@@ -1,6 +1,7 @@
 // What a line says.
 use packet::Rx;
 use packet::Tx;
+use record::Kind;
 use seats::Request;
 
 // Bytes that the line gives, a packet or audio, lie in a buffer apart; here is how many they are.
@@ -59,7 +60,7 @@ pub enum Call {
 pub struct SetupSaid {
     pub lessons: u8,
     pub ext: u16,
-    pub pair: bool,
+    pub kind: Kind,
     pub equal_summation: bool,
     pub coupling_summation: bool,
 }

@@ -3,11 +3,12 @@ ghost use mathlib.Core.Path.{_≡_};
 ghost use mathlib.Core.Bool.{true, false};
 ghost use mathlib.Core.List.{_∷_, []};
 ghost use Prim.Native.Nat.{_≤_};
-ghost use Rattle.grammar.specs.Said.{oneOf, callTypeIn, roomIn, has, freeDigit, seatDigits, counted, lessonsOf, seatsIn};
-ghost use Rattle.grammar.specs.Pieces.{boolSaid, callTypeSaid, roomSaid, seatsSaid, lentSaid, lentIn};
+ghost use Rattle.grammar.specs.Said.{oneOf, kindIn, callTypeIn, roomIn, has, freeDigit, seatDigits, counted, lessonsOf, seatsIn};
+ghost use Rattle.grammar.specs.Pieces.{boolSaid, kindSaid, callTypeSaid, roomSaid, seatsSaid, lentSaid, lentIn};
 use crate::call::Lent;
 use crate::call::ROOM;
 use base::part;
+use record::Kind;
 use seats::CallType;
 use words::BytesRead;
 use words::HalfRead;
@@ -18,6 +19,11 @@ use words::place_of;
 
 pub enum BoolRead {
     Is(bool),
+    Not,
+}
+
+pub enum KindRead {
+    Is(Kind),
     Not,
 }
 
@@ -50,6 +56,17 @@ pub fn second(w: &[u8], list: &[u8]) -> BoolRead
         0 => BoolRead::Is(false),
         1 => BoolRead::Is(true),
         _ => BoolRead::Not,
+    }
+}
+
+pub fn kind(w: &[u8]) -> KindRead
+    ensures { λ r. ⌜ kindSaid r ≡ kindIn (now (w .entry)) ⌝ }
+{
+    match choice(w, b"single pair shared") {
+        0 => KindRead::Is(Kind::Single),
+        1 => KindRead::Is(Kind::Pair),
+        2 => KindRead::Is(Kind::Shared),
+        _ => KindRead::Not,
     }
 }
 

@@ -4,8 +4,10 @@ ghost use Rattle.grammar.specs.Pieces.{modesSaid, modesIn, requestSaid, 
 use crate::call::SetupSaid;
 use crate::pieces::BoolRead;
 use crate::pieces::CallTypeRead;
+use crate::pieces::KindRead;
 use crate::pieces::SeatsRead;
 use crate::pieces::call_type;
+use crate::pieces::kind;
 use crate::pieces::seats;
 use crate::pieces::second;
 use seats::Request;
@@ -29,7 +31,7 @@ pub enum RequestRead {
     Not,
 }
 
-// SEATS EXT single|pair lockout|summation interruption|summation
+// SEATS EXT single|pair|shared lockout|summation interruption|summation
 pub fn modes(s: &[u8]) -> ModesRead
     ensures { λ r. ⌜ modesSaid r ≡ modesIn (now (s .entry)) ⌝ }
 {
@@ -39,7 +41,7 @@ pub fn modes(s: &[u8]) -> ModesRead
     let HalfRead::Is(ext) = hex_half(word(s, 2)) else {
         return ModesRead::Not;
     };
-    let BoolRead::Is(pair) = second(word(s, 3), b"single pair") else {
+    let KindRead::Is(kind) = kind(word(s, 3)) else {
         return ModesRead::Not;
     };
     let BoolRead::Is(equal_summation) = second(word(s, 4), b"lockout summation") else {
@@ -51,7 +53,7 @@ pub fn modes(s: &[u8]) -> ModesRead
     ModesRead::Are(SetupSaid {
         lessons,
         ext,
-        pair,
+        kind,
         equal_summation,
         coupling_summation,
     })

@@ -11,6 +11,7 @@ use Rattle.reader.specs.Reading.{readerRefusals, messageOf, itemsHere}
 use Rattle.packet.specs.declared.message.Direction.the-variants as direction
 use Rattle.packet.proofs.Judged.{none-of-both}
 use Rattle.reader.proofs.Passed.{Passed, passed, field-passed}
+use Rattle.record.specs.Kind.{kindOf}
 use Rattle.record.specs.Record.{noSuchSeat, lesson}
 use Rattle.seats.specs.Opening.{ownId, seatRefusals}
 use Rattle.hearing.specs.Hearing.{keyingBarred, idAllowed, sideBarred, messageIn, messageRefusals, packetRefusals}
@@ -25,7 +26,7 @@ pub record PacketAccepted (setup : Setup) (n : ℕ) (s : Seat) (p : List ℕ) : 
   pub not-late : late (s .heard .any) (s .heard .sequence) (messageIn p .sequence) ≡ false
   pub may-key : keyingBarred (lesson setup n) (s .call) (messageIn p) ≡ false
   pub id-allowed : idAllowed (ownId n (s .call)) (messageIn p) ≡ true
-  pub may-ask-side : sideBarred (lesson setup n) (setup .pair) (messageIn p) ≡ false
+  pub may-ask-side : sideBarred (lesson setup n) (kindOf (setup .kind)) (messageIn p) ≡ false
 
 pub packet-accepted : (setup : Setup) (n : ℕ) (s : Seat) (p : List ℕ) → NoCase (packetRefusals setup n s p) → PacketAccepted setup n s p
 unfolding packetRefusals messageRefusals seatRefusals

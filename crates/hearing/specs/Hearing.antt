@@ -15,10 +15,12 @@ use Rattle.packet.specs.declared.message.ClimaxItem.the-variants as climax
 use Rattle.packet.specs.declared.message.SideItem.{SideItem}
 use Rattle.packet.specs.declared.message.SideItem.the-variants as side
 use Rattle.packet.specs.declared.message.Tx.{Tx}
+use Rattle.record.specs.Kind.{kindOf, itemBarred, itemsMoveSide}
 use Rattle.record.specs.Record.{seatOf, lesson, withSeat, withOrder, withSide}
 use Rattle.seats.specs.Opening.{isTxRx, mayKey, ownId, seatRefusals}
 use Rattle.air.specs.Air.{benchAir}
 use Rattle.air.specs.Order.{orderAfter}
+use Rattle.record.specs.declared.kind.Kind.{Kind}
 use Rattle.record.specs.declared.setup.Setup.{Setup}
 use Rattle.record.specs.declared.seat.Field.{Field}
 use Rattle.record.specs.declared.seat.Heard.{Heard}
@@ -73,9 +75,10 @@ keyingBarred isLesson call m =
 unfoldable pub idAllowed : (own : ℕ) → Tx → Bool
 idAllowed own m = eqb (m .id) own || (not (pttOn m) && eqb (m .id) 0)
 
--- "23 | main/standby item .. on a single radio; main/standby item from a lesson seat"
-unfoldable pub sideBarred : (isLesson pair : Bool) → Tx → Bool
-sideBarred isLesson pair m = hasSide (m .side) && (not pair || isLesson)
+-- "23 | main/standby item .. on a single radio; main/standby item from a lesson seat"; 02, request 10: "23 also for an item of 1 here; a lesson
+-- seat's item is still refused"
+unfoldable pub sideBarred : (isLesson : Bool) → Kind → Tx → Bool
+sideBarred isLesson kind m = itemBarred kind (m .side) || (isLesson && hasSide (m .side))
 
 abbrev pub messageIn : List ℕ → Tx
 messageIn p = asTx (messageOf p)
@@ -87,7 +90,7 @@ messageRefusals setup n s m =
     ∷ 20 if late (s .heard .any) (s .heard .sequence) (m .sequence)
     ∷ 21 if keyingBarred (lesson setup n) (s .call) m
     ∷ 22 if not (idAllowed (ownId n (s .call)) m)
-    ∷ 23 if sideBarred (lesson setup n) (setup .pair) m
+    ∷ 23 if sideBarred (lesson setup n) (kindOf (setup .kind)) m
     ∷ []
 
 -- "Packet 13, 14, 1 to 12, 19 to 23."
@@ -114,15 +117,18 @@ heardSeat s m =
 unfoldable pub takesEffect : (old new : Field) → Bool
 takesEffect old new = new .sided && not (old .sided && Bool·beq (old .standby) (new .standby))
 
-unfoldable pub sideAfter : (old new : Field) → (inUse : Bool) → Bool
-sideAfter old new inUse = cond (takesEffect old new) (new .standby) inUse
+-- 02, request 10: "An item of 0 is accepted and moves nothing"
+unfoldable pub sideAfter : Kind → (old new : Field) → (inUse : Bool) → Bool
+sideAfter kind old new inUse = cond (itemsMoveSide kind && takesEffect old new) (new .standby) inUse
 
 -- The bench after an accepted message: its seat, the order of keyings, and the side in use.
 unfoldable pub heardBench : Bench → (n : ℕ) → Tx → Bench
 heardBench b n m =
     let before = seatOf (b .seats) n in
     let old = before .heard .field in
-    withSide (withOrder (withSeat b n (heardSeat before m)) (orderAfter n old (fieldHeard m) (b .order))) (sideAfter old (fieldHeard m) (b .standby))
+    withSide
+    (withOrder (withSeat b n (heardSeat before m)) (orderAfter n old (fieldHeard m) (b .order)))
+    (sideAfter (kindOf (b .setup .kind)) old (fieldHeard m) (b .standby))
 
 -- "Reply now exactly when the field with its items differs in meaning from the seat's previous accepted one."
 unfoldable pub sameField : (old new : Field) → Bool

@@ -1,6 +1,7 @@
 // Whether a message is let in: refusals 19 to 23.
 ghost use mathlib.Core.Path.{_≡_};
 ghost use Rattle.packet.specs.Refusals.{verdictOf};
+ghost use Rattle.record.specs.Kind.{kindOf};
 ghost use Rattle.hearing.specs.Hearing.{keyingBarred, idAllowed, sideBarred};
 ghost use Rattle.hearing.specs.Pieces.{messageVerdict};
 use crate::memory::has_side;
@@ -11,6 +12,8 @@ use packet::Tx;
 use packet::Verdict;
 use record::Seat;
 use record::Setup;
+use record::kind::item_barred;
+use record::kind::kind_of;
 use record::lesson_seat;
 use seats::opening::may_key;
 use seats::opening::own_id;
@@ -33,7 +36,7 @@ pub fn message_verdict(setup: Setup, n: u8, s: Seat, m: Tx) -> Verdict
     if !id_allowed(own_id(n, s.call), m) {
         return Verdict::Refused(Refusal::OtherId);
     }
-    if side_barred(lesson, setup.pair, m) {
+    if side_barred(lesson, setup.kind, m) {
         return Verdict::Refused(Refusal::SideNotAllowed);
     }
     Verdict::Fine
@@ -55,10 +58,11 @@ fn id_allowed(own: u8, m: Tx) -> bool
     (m.id == own) | (!on & (m.id == 0))
 }
 
-// 23: a main/standby item on a single radio or from a lesson seat.
-fn side_barred(lesson: bool, pair: bool, m: Tx) -> bool
-    ensures { λ r. ⌜ r ≡ sideBarred lesson pair m ⌝ }
+// 23: a main/standby item that the kind of radio bars, or one from a lesson seat.
+fn side_barred(lesson: bool, code: u8, m: Tx) -> bool
+    ensures { λ r. ⌜ r ≡ sideBarred lesson (kindOf code) m ⌝ }
 {
     let side = m.side;
-    has_side(side) & (!pair | lesson)
+    let kind = kind_of(code);
+    item_barred(kind, side) | (lesson & has_side(side))
 }

@@ -1,6 +1,7 @@
 // What an accepted message leaves: what its seat keeps of it, the side in use, and the bench after it.
 ghost use mathlib.Core.Path.{_≡_};
 ghost use mathlib.Core.Bool.{false};
+ghost use Rattle.record.specs.Kind.{kindOf};
 ghost use Rattle.record.specs.Record.{noSuchSeat, seatOf};
 ghost use Rattle.hearing.specs.Hearing.{hasDelay, delayOf, hasSide, isStandby, fieldHeard, heardSeat, sameField, takesEffect, sideAfter, heardBench};
 use air::order::order_after;
@@ -11,12 +12,15 @@ use record::Bench;
 use record::Field;
 use record::Heard;
 use record::Seat;
+use record::kind::items_move_side;
+use record::kind::kind_of;
 
 // The bench after an accepted message, s being the seat before it.
 pub fn heard_bench(b: Bench, n: u8, s: Seat, m: Tx) -> Bench
     requires { ⌜ (noSuchSeat n ≡ false) × (s ≡ seatOf (b .seats) n) ⌝ }
     ensures { λ r. ⌜ r ≡ heardBench b n m ⌝ }
 {
+    let setup = b.setup;
     let order = b.order;
     let heard = s.heard;
     let old = heard.field;
@@ -26,7 +30,7 @@ pub fn heard_bench(b: Bench, n: u8, s: Seat, m: Tx) -> Bench
     let mut after = b;
     after.seats[i] = heard_seat(s, m);
     after.order = moved;
-    after.standby = side_after(old, new, b.standby);
+    after.standby = side_after(setup.kind, old, new, b.standby);
     after
 }
 
@@ -103,10 +107,11 @@ fn is_standby(i: SideItem) -> bool
 }
 
 // The side in use after a packet.
-fn side_after(old: Field, new: Field, standby: bool) -> bool
-    ensures { λ r. ⌜ r ≡ sideAfter old new standby ⌝ }
+fn side_after(code: u8, old: Field, new: Field, standby: bool) -> bool
+    ensures { λ r. ⌜ r ≡ sideAfter (kindOf code) old new standby ⌝ }
 {
-    if takes_effect(old, new) {
+    let kind = kind_of(code);
+    if items_move_side(kind) & takes_effect(old, new) {
         new.standby
     } else {
         standby

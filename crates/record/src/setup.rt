@@ -7,8 +7,8 @@ use crate::seat::no_such_seat;
 pub struct Setup {
     pub lesson: [bool; 8],
     pub ext: u16,
-    // a pair of radios, main and standby; else a single radio
-    pub pair: bool,
+    // the kind of radio, by its code (kind_code)
+    pub kind: u8,
     // equal-rank mode: summation, else lockout
     pub equal_summation: bool,
     // coupling mode: summation, else interruption

@@ -11,9 +11,8 @@ use Rattle.packet.specs.Refusals.{Case, _if_, Answer, judged}
 use Rattle.writer.specs.Writing.{fromRx, encode, audioWritable, filled}
 use Rattle.packet.specs.declared.message.SqiItem.{SqiItem}
 use Rattle.packet.specs.declared.message.SqiItem.the-variants as sqi
-use Rattle.packet.specs.declared.message.SideItem.{SideItem}
-use Rattle.packet.specs.declared.message.SideItem.the-variants as side
 use Rattle.packet.specs.declared.message.Rx.{Rx}
+use Rattle.record.specs.Kind.{kindOf, sideTold}
 use Rattle.record.specs.Record.{seatOf, withSequence}
 use Rattle.seats.specs.Opening.{seatRefusals}
 use Rattle.record.specs.declared.whole.Bench.{Bench}
@@ -35,12 +34,8 @@ sctTold signals = leb 2 signals
 abbrev pub sqiTold : (signals : ℕ) → ℤ → SqiItem
 sqiTold signals level = cond (squTold signals) (sqi.Is (quality level) rssi) sqi.Absent
 
--- "Main/standby item, with the side in use, exactly for a pair."
-abbrev pub sideTold : (pair standby : Bool) → SideItem
-sideTold pair standby = cond pair (cond standby side.Standby side.Main) side.Absent
-
 -- The report as a message: "PM: the seat's own last PM." Who is on the air it reads from the record (02, request 5: "let reports
--- read them"), whatever stands there.
+-- read them"), whatever stands there; its main/standby item is that of the kind (Kind, sideTold).
 unfoldable pub reportOf : Bench → (n timestamp : ℕ) → Rx
 reportOf b n timestamp =
     record {
@@ -54,7 +49,7 @@ reportOf b n timestamp =
       ptts = b .air .ptts;
       sct = sctTold (b .signals);
       sqi = sqiTold (b .signals) (b .level);
-      side = sideTold (b .setup .pair) (b .standby);
+      side = sideTold (kindOf (b .setup .kind)) (b .standby);
     }
 
 -- and as bytes, by the writer of RX messages below 27

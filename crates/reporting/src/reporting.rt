@@ -6,17 +6,18 @@ ghost use lib.ListN.{length, getD};
 ghost use Rattle.writer.specs.Writing.{fromRx, put, afterPut, writtenAnswer};
 ghost use Rattle.packet.specs.Refusals.{verdictOf};
 ghost use Rattle.record.specs.Record.{noSuchSeat, settled};
-ghost use Rattle.reporting.specs.Reporting.{idTold, sqiTold, sideTold, audioBarred, reportOf, reportSaid, reportBuffer, nextSequence, reportedBench};
+ghost use Rattle.reporting.specs.Reporting.{idTold, sqiTold, audioBarred, reportOf, reportSaid, reportBuffer, nextSequence, reportedBench};
 ghost use Rattle.reporting.specs.Pieces.{reportVerdict};
 use packet::Refusal;
 use packet::Rx;
-use packet::SideItem;
 use packet::SqiItem;
 use packet::Verdict;
 use packet::audio_length;
 use packet::quality;
 use record::Air;
 use record::Bench;
+use record::kind::kind_of;
+use record::kind::side_told;
 use record::place;
 use record::seat_of;
 use seats::opening::seat_verdict;
@@ -103,6 +104,7 @@ pub fn report_of(b: Bench, n: u8, timestamp: u32) -> Rx
     let field = heard.field;
     let air = b.air;
     let sequences = b.sequences;
+    let kind = kind_of(setup.kind);
     Rx {
         sequence: sequence_of(sequences, n),
         timestamp,
@@ -114,7 +116,7 @@ pub fn report_of(b: Bench, n: u8, timestamp: u32) -> Rx
         ptts: air.ptts,
         sct: 2 <= b.signals,
         sqi: sqi_told(b.signals, b.level),
-        side: side_told(setup.pair, b.standby),
+        side: side_told(kind, b.standby),
     }
 }
 
@@ -155,20 +157,6 @@ fn sqi_told(signals: u8, level: i16) -> SqiItem
         }
     } else {
         SqiItem::Absent
-    }
-}
-
-fn side_told(pair: bool, standby: bool) -> SideItem
-    ensures { λ r. ⌜ r ≡ sideTold pair standby ⌝ }
-{
-    if pair {
-        if standby {
-            SideItem::Standby
-        } else {
-            SideItem::Main
-        }
-    } else {
-        SideItem::Absent
     }
 }
 

@@ -8,6 +8,7 @@ use lib.Dec.{leb}
 use borrow.Author.Tests.{leb-true, not-false}
 use Rattle.base.proofs.Truths.{and-left, and-right, and-rest}
 use Rattle.packet.specs.Refusals.{NoCase}
+use Rattle.record.specs.Kind.{kindOf, hasOneSide}
 use Rattle.record.specs.Record.{noSuchSeat, seatOf, lesson}
 use Rattle.seats.specs.Opening.{shortest, longest, fewest, most, asksCoupling, anyCoupling, timesAllowed, openRefusals, seatRefusals}
 use Rattle.seats.specs.Radio.{sideRefusals}
@@ -50,6 +51,6 @@ pub seat-accepted : (n : ℕ) (opened : Bool) → NoCase (seatRefusals n opened)
 unfolding seatRefusals
 seat-accepted n opened none = record { is-seat = none .0; was-open = not-false _ (none .1 .0) }
 
-pub side-accepted : (setup : Setup) → NoCase (sideRefusals setup) → setup .pair ≡ true
+pub side-accepted : (setup : Setup) → NoCase (sideRefusals setup) → hasOneSide (kindOf (setup .kind)) ≡ false
 unfolding sideRefusals
-side-accepted setup none = not-false _ (none .0)
+side-accepted setup none = none .0

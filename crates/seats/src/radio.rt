@@ -9,6 +9,8 @@ use crate::answer::DoneAnswer;
 use air::aired;
 use packet::Refusal;
 use record::Bench;
+use record::kind::has_one_side;
+use record::kind::kind_of;
 
 // Signals received, with the level in tenths of a dBm.
 pub fn received(b: Bench, signals: u8, level: i16) -> Bench
@@ -35,17 +37,18 @@ pub fn side(b: Bench, standby: bool) -> Done
     ensures bench { λ d. ⌜ d .bench ≡ settled (sideSaid b) b (aired (withSide b standby)) ⌝ }
 {
     let setup = b.setup;
-    if setup.pair {
-        let sided = sided_bench(b, standby);
-        let next = aired(sided);
+    let kind = kind_of(setup.kind);
+    if has_one_side(kind) {
         return Done {
-            bench: next,
-            answer: DoneAnswer::Done,
+            bench: b,
+            answer: DoneAnswer::Refused(Refusal::SideNotAllowed),
         };
     }
+    let sided = sided_bench(b, standby);
+    let next = aired(sided);
     Done {
-        bench: b,
-        answer: DoneAnswer::Refused(Refusal::SideNotAllowed),
+        bench: next,
+        answer: DoneAnswer::Done,
     }
 }
 

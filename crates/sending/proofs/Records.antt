@@ -1,7 +1,7 @@
 -- What a tick sends: the length of its records, each behind its two bytes, and that they always fit. Of any bench, whoever is due.
 use Prim.Native.Nat.{ℕ, suc, _+_, _*_, _≤_}
 use mathlib.Core.Path.{_≡_, refl, sym, ap, ap₂, _∙_}
-use mathlib.Core.Bool.{Bool, true, false, _&&_}
+use mathlib.Core.Bool.{Bool, true, false}
 use mathlib.Core.List.{List, [], _∷_}
 use native.Mathlib.Omega.{arith}
 use native.Mathlib.Nat.{mul-add}
@@ -12,14 +12,10 @@ use Rattle.base.proofs.Lists.{many-most}
 use Rattle.framing.specs.Framing.{framed}
 use Rattle.writer.specs.Writing.{headOf, encode}
 use Rattle.seats.specs.Ticking.{isDue, dueSeats}
-use Rattle.reporting.specs.Reporting.{squTold, reportBytes}
-use Rattle.reporting.proofs.ReportLength.{report-long}
+use Rattle.reporting.specs.Reporting.{reportBytes}
+use Rattle.reporting.proofs.ReportLength.{twoItems, report-long}
 use Rattle.record.specs.declared.whole.Bench.{Bench}
 use Rattle.sending.specs.Sending.{mostSent, afterClosings, recordFor, recordsFrom, records, sentAs, inOrder, sentBytes}
-
--- a report of this bench has two items
-abbrev pub twoItems : Bench → Bool
-twoItems shown = squTold (shown .signals) && shown .setup .pair
 
 -- 22 bytes a report, 26 where it has two items
 abbrev pub frameLength : (two : Bool) → ℕ

@@ -1,7 +1,7 @@
 -- The invariant from the start through every call.
 use Prim.Native.Nat.{ℕ, _-_, _%_, _<_}
 use mathlib.Core.Path.{_≡_, refl, ap, sym, _∙_, subst, subst₂}
-use mathlib.Core.Bool.{Bool, true, false, cond}
+use mathlib.Core.Bool.{Bool, true, false, false≢true, cond}
 use mathlib.Core.List.{List, [], _∷_}
 use native.Mathlib.Omega.{arith}
 use lib.Dec.{eqb}
@@ -11,6 +11,7 @@ use Rattle.base.specs.Lists.{howMany}
 use Rattle.base.proofs.Places.{set-cases, all-alike}
 use Rattle.packet.specs.Refusals.{NoCase}
 use Rattle.packet.specs.declared.message.Tx.{Tx}
+use Rattle.record.specs.Kind.{kindOf, hasOneSide}
 use Rattle.record.specs.Record.{closedSeat, openedSeat, freshBench, seatOf}
 use Rattle.seats.specs.Opening.{callCode, asksCoupling, holdsCoupling, openedBench, closedBench}
 use Rattle.seats.specs.Ticking.{tickedSeat, dueSeats, tickedBench}
@@ -18,6 +19,7 @@ use Rattle.hearing.specs.Hearing.{fieldHeard, heardSeat, heardBench, messageIn}
 use Rattle.reporting.specs.Reporting.{reportedBench}
 use Rattle.sending.specs.Sending.{sentBench}
 use Rattle.bench.specs.Step.{Call, opening, closing, packet, tick, report, received, transmitter, side, keeping, after}
+use Rattle.record.specs.declared.kind.Kind.the-variants.{Single}
 use Rattle.record.specs.declared.setup.Setup.{Setup}
 use Rattle.record.specs.declared.seat.Seat.{Seat}
 use Rattle.record.specs.declared.whole.Bench.{Bench}
@@ -155,12 +157,13 @@ module _ (b : Bench) (kept : Kept b) where
 
   -- ---- the side of a single radio
 
-  main-kept : (c : Call) → InRange c → NoCase (refusalsOf b c) → b .setup .pair ≡ false → benchAfter b c .standby ≡ false
+  main-kept : (c : Call) → InRange c → NoCase (refusalsOf b c) → kindOf (b .setup .kind) ≡ Single → benchAfter b c .standby ≡ false
   unfolding openedBench closedBench heardBench heardSeat tickedBench sentBench reportedBench
   main-kept (packet n p) fits none single =
       let new = heard-seat-kept (b .setup) n (b .seats) p (packet-accepted (b .setup) n (seatOf (b .seats) n) p none) fits (kept .each-seat n) in
-      side-stays (seatOf (b .seats) n .heard .field) (fieldHeard (messageIn p)) (b .standby) (new .field-kept .no-item-single single) ∙ kept .single-on-main single
-  main-kept (side standby) fits none single = cc (side-accepted (b .setup) none)
+      side-stays (kindOf (b .setup .kind)) (seatOf (b .seats) n .heard .field) (fieldHeard (messageIn p)) (b .standby) (new .field-kept .no-item-single single)
+      ∙ kept .single-on-main single
+  main-kept (side standby) fits none single = absurd (false≢true (sym (side-accepted (b .setup) none) ∙ ap hasOneSide single))
   main-kept (opening n r) fits none single = kept .single-on-main single
   main-kept (closing n) fits none single = kept .single-on-main single
   main-kept (tick ms timestamp room) fits none single = kept .single-on-main single
@@ -181,7 +184,7 @@ module _ (b : Bench) (kept : Kept b) where
         order-counts = λ n. order-kept c .1 (λ m. eqb m n) ∙ kept .order-counts n;
         each-seat = λ n. subst₂ (λ (setup : Setup) (s : Seat). SeatKept setup n s) (sym (same-setup b c)) (sym (seat n)) (seat-kept c fits none n);
         one-coupling = λ m n e f. coupling-kept c none m n (sym (ap holdsCoupling (seat m)) ∙ e) (sym (ap holdsCoupling (seat n)) ∙ f);
-        single-on-main = λ e. main-kept c fits none (sym (ap (λ (setup : Setup). setup .pair) (same-setup b c)) ∙ e);
+        single-on-main = λ e. main-kept c fits none (sym (ap (λ (setup : Setup). kindOf (setup .kind)) (same-setup b c)) ∙ e);
       }
 
 pub kept-call : (b : Bench) (c : Call) → Kept b → InRange c → Kept (keeping b c .bench)

@@ -17,10 +17,12 @@ use Rattle.packet.specs.declared.message.ClimaxItem.the-variants as climax
 use Rattle.packet.specs.declared.message.SideItem.{SideItem}
 use Rattle.packet.specs.declared.message.SideItem.the-variants as side
 use Rattle.packet.specs.declared.message.Tx.{Tx}
+use Rattle.record.specs.Kind.{kindOf}
 use Rattle.record.specs.Record.{zeroField, closedSeat, openedSeat, seatOf, lesson}
 use Rattle.seats.specs.Opening.{callCode, isTxRx, isCoupling, shortest, fewest, ownId}
 use Rattle.seats.specs.Ticking.{phaseAfter, aged, tickedSeat}
 use Rattle.hearing.specs.Hearing.{hasDelay, delayOf, hasSide, isStandby, fieldHeard, keyingBarred, idAllowed, sideBarred, messageIn, heardSeat}
+use Rattle.record.specs.declared.kind.Kind.{Kind}
 use Rattle.record.specs.declared.setup.Setup.{Setup}
 use Rattle.record.specs.declared.seat.Seat.{Seat}
 use Rattle.seats.specs.declared.opening.CallType.{CallType}
@@ -29,13 +31,13 @@ use Rattle.seats.specs.declared.opening.Request.{Request}
 use Rattle.demands.specs.Kept.{FieldKept, SeatKept}
 use Rattle.seats.proofs.TickingLaws.{ticked-cases}
 use Rattle.seats.proofs.Accepted.{OpenAccepted}
-use Rattle.hearing.proofs.Sides.{no-item-single, no-item-lesson}
+use Rattle.hearing.proofs.Sides.{no-item-single, zero-or-none-shared, no-item-lesson}
 use Rattle.hearing.proofs.Accepted.{PacketAccepted, type-known}
 
 -- ---- the last field
 
-pub zero-field-kept : (isLesson pair : Bool) (call own : ℕ) → FieldKept isLesson pair call own zeroField
-zero-field-kept isLesson pair call own =
+pub zero-field-kept : (isLesson : Bool) (kind : Kind) (call own : ℕ) → FieldKept isLesson kind call own zeroField
+zero-field-kept isLesson kind call own =
     record {
       type-known = omega arith;
       may-key = λ e. cc;
@@ -44,6 +46,7 @@ zero-field-kept isLesson pair call own =
       own-or-none = inr refl;
       keyed-own = λ e. cc;
       no-item-single = λ e. refl;
+      zero-or-none-shared = λ e. refl;
       no-item-lesson = λ e. refl;
       no-delay = λ e. refl;
       no-side = λ e. refl;
@@ -69,9 +72,9 @@ own-or-off true off none e h = refl
 own-or-off false true none e h = sym h
 own-or-off false false none e h = e
 
-module _ (isLesson pair : Bool) (call own : ℕ) (m : Tx) where
-  heard-field-kept : m .ptt ≤ 5 → keyingBarred isLesson call m ≡ false → idAllowed own m ≡ true → sideBarred isLesson pair m ≡ false
-      → FieldKept isLesson pair call own (fieldHeard m)
+module _ (isLesson : Bool) (kind : Kind) (call own : ℕ) (m : Tx) where
+  heard-field-kept : m .ptt ≤ 5 → keyingBarred isLesson call m ≡ false → idAllowed own m ≡ true → sideBarred isLesson kind m ≡ false
+      → FieldKept isLesson kind call own (fieldHeard m)
   unfolding keyingBarred idAllowed fieldHeard
   heard-field-kept small barred allowed sided =
       let off = eqb (m .ptt) 0 in
@@ -88,8 +91,9 @@ module _ (isLesson pair : Bool) (call own : ℕ) (m : Tx) where
         lesson-only-tests = tests-only isLesson off (eqb (m .ptt) 5) (or-right (not off && not keys || alone) lessons barred);
         own-or-none = by-id (eqb (m .id) own) refl;
         keyed-own = λ e. eqb-true (m .id) own (own-or-off (eqb (m .id) own) off (eqb (m .id) 0) allowed e);
-        no-item-single = no-item-single isLesson pair m sided;
-        no-item-lesson = no-item-lesson isLesson pair m sided;
+        no-item-single = no-item-single isLesson kind m sided;
+        zero-or-none-shared = zero-or-none-shared isLesson kind m sided;
+        no-item-lesson = no-item-lesson isLesson kind m sided;
         no-delay = no-delay (m .climax);
         no-side = no-side (m .side);
       }
@@ -110,7 +114,7 @@ closed-seat-kept setup n =
       call-known = omega arith;
       lesson-not-coupling = λ e. refl;
       nothing-yet = λ e. refl;
-      field-kept = zero-field-kept (lesson setup n) (setup .pair) 0 0;
+      field-kept = zero-field-kept (lesson setup n) (kindOf (setup .kind)) 0 0;
       sequence-fits = omega arith;
       heard-ssrc-fits = omega arith;
       ssrc-fits = omega arith;
@@ -151,7 +155,7 @@ module _ (setup : Setup) (n : ℕ) (seats : List Seat) where
         call-known = call-code-known (r .call);
         lesson-not-coupling = passed .lesson-not-coupling;
         nothing-yet = λ e. refl;
-        field-kept = zero-field-kept (lesson setup n) (setup .pair) (callCode (r .call)) (ownId n (callCode (r .call)));
+        field-kept = zero-field-kept (lesson setup n) (kindOf (setup .kind)) (callCode (r .call)) (ownId n (callCode (r .call)));
         sequence-fits = omega arith;
         heard-ssrc-fits = omega arith;
         ssrc-fits = fits;
@@ -178,7 +182,7 @@ module _ (setup : Setup) (n : ℕ) (seats : List Seat) where
         call-known = kept .call-known;
         lesson-not-coupling = kept .lesson-not-coupling;
         nothing-yet = λ e. cc;
-        field-kept = heard-field-kept (lesson setup n) (setup .pair) (s .call) (ownId n (s .call)) (messageIn p)
+        field-kept = heard-field-kept (lesson setup n) (kindOf (setup .kind)) (s .call) (ownId n (s .call)) (messageIn p)
             (type-known (setup .ext) p (passed .was-read)) (passed .may-key) (passed .id-allowed) (passed .may-ask-side);
         sequence-fits = number16-small p small 2;
         heard-ssrc-fits = omega (arith, number16-small p small 8, number16-small p small 10);

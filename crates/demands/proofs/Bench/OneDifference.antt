@@ -2,6 +2,7 @@
 use mathlib.Core.Path.{refl}
 use Rattle.base.specs.Lists.{howMany}
 use Rattle.writer.specs.Writing.{risingItems, itemBytes, wordsOf, headOf, encode}
+use Rattle.record.specs.Kind.{kindOf}
 use Rattle.record.specs.Record.{openedSeat, freshBench, seatOf, lesson}
 use Rattle.air.specs.Air.{takesPart, keyingsOf, keyings, topRank, atRank, leaders, added, onAir, among, smallest, anySends, airOf, benchAir}
 use Rattle.seats.specs.Opening.{openRefusals, openSaid, openedBench}
@@ -12,5 +13,5 @@ use Rattle.bench.specs.Step.{does, after}
 use Rattle.demands.specs.OneDifference.{OneDifference}
 
 pub one-difference-seen : OneDifference
-unfolding howMany risingItems itemBytes wordsOf headOf encode openedSeat freshBench seatOf lesson takesPart keyingsOf keyings topRank atRank leaders added onAir among smallest anySends airOf benchAir openRefusals openSaid openedBench fallsSilent isDue tickedSeat tickedBench reportOf reportBytes tickRefusals recordsFrom records oneFurther sentBench tickSaid does after
+unfolding howMany risingItems itemBytes wordsOf headOf encode kindOf openedSeat freshBench seatOf lesson takesPart keyingsOf keyings topRank atRank leaders added onAir among smallest anySends airOf benchAir openRefusals openSaid openedBench fallsSilent isDue tickedSeat tickedBench reportOf reportBytes tickRefusals recordsFrom records oneFurther sentBench tickSaid does after
 one-difference-seen = record { first = refl; second = refl; merged = refl; merged-numbers = refl; same-but-numbers = refl }

@@ -1,7 +1,6 @@
 -- The room that a tick asks for.
 use Prim.Native.Nat.{ℕ, _+_, _*_, _≤_, _<_}
 use mathlib.Core.Path.{_≡_, refl, ap, _∙_}
-use mathlib.Core.Bool.{_&&_}
 use mathlib.Core.Logic.{inl, inr, _↔_}
 use native.Mathlib.Omega.{arith}
 use borrow.Author.Tests.{ltb-true, ltb-false, lt-ltb, le-ltb}
@@ -10,19 +9,20 @@ use Rattle.base.specs.Bytes.{bit}
 use Rattle.base.specs.Lists.{howMany}
 use Rattle.base.proofs.Lists.{many-changed}
 use Rattle.packet.specs.Refusals.{FirstCase, refused}
+use Rattle.record.specs.Kind.{kindOf}
 use Rattle.record.specs.Record.{openedSeat, freshBench, seatOf, lesson}
 use Rattle.seats.specs.Opening.{anyCoupling, openRefusals, openSaid, openedBench}
 use Rattle.seats.specs.Ticking.{isDue, dueSeats, tickedBench}
-use Rattle.reporting.specs.Reporting.{squTold}
+use Rattle.reporting.proofs.ReportLength.{twoItems}
 use Rattle.sending.specs.Sending.{longestTick, mostSent, tickRefusals, afterClosings, records, sentBytes}
-use Rattle.sending.proofs.Records.{twoItems, frameLength, records-long, records-fill, sent-most}
+use Rattle.sending.proofs.Records.{frameLength, records-long, records-fill, sent-most}
 use Rattle.bench.specs.Step.{tick, does, keeping, after}
 use Rattle.record.specs.declared.whole.Bench.{Bench}
 use Rattle.demands.specs.Room.{allIn, Room}
 use Rattle.demands.proofs.Demand1.ExactCalls.{calls-exact}
 
 used : (b : Bench) (ms timestamp : ℕ)
-    → length (sentBytes b ms timestamp) ≡ (22 + 4 * bit (squTold (b .signals) && b .setup .pair)) * howMany (isDue ms) (b .seats)
+    → length (sentBytes b ms timestamp) ≡ frameLength (twoItems b) * howMany (isDue ms) (b .seats)
 unfolding sentBytes records tickedBench
 used b ms timestamp =
     records-long (afterClosings b ms) timestamp 1 (dueSeats b ms)
@@ -30,7 +30,7 @@ used b ms timestamp =
 
 -- in the lab every seat is due, and every report has two items
 needed : length (sentBytes allIn 20 0) ≡ mostSent
-unfolding openedSeat freshBench seatOf lesson anyCoupling openRefusals openSaid openedBench isDue tickedBench records sentBytes does after
+unfolding kindOf openedSeat freshBench seatOf lesson anyCoupling openRefusals openSaid openedBench isDue tickedBench records sentBytes does after
 needed = records-fill (afterClosings allIn 20) 0 1 refl
 
 -- what 26's case is, behind 24's

@@ -14,6 +14,7 @@ use Rattle.packet.specs.Items.{allZero, itemsBehind, itemAllowed, allAllowed, h
 use Rattle.packet.specs.Quality.{quality}
 use Rattle.reader.specs.Reading.{readerRefusals, itemsHere, messageOf}
 use Rattle.writer.specs.Writing.{risingItems, itemBytes, wordsOf, headOf, encode}
+use Rattle.record.specs.Kind.{kindOf}
 use Rattle.record.specs.Record.{seatNumbers, openedSeat, freshBench, seatOf, lesson}
 use Rattle.seats.specs.Opening.{anyCoupling, openRefusals, openSaid, openedBench, seatRefusals}
 use Rattle.air.specs.Air.{takesPart, keyingsOf, keyings, topRank, atRank, leaders, added, onAir, among, smallest, anySends, airOf, benchAir}
@@ -36,7 +37,7 @@ use Rattle.demands.proofs.Demand2.Nodding.{nodding-apart}
 -- ---- the calls that are tried, computed
 
 tried : Tried
-unfolding centred distance late missing payload payloadAllowed fieldAllowed afterField allZero itemsBehind itemAllowed allAllowed hasType noTypeTwice runAllowed itemsAllowed itemsOf sqiAmong climaxAmong sideAmong kept quality readerRefusals itemsHere messageOf risingItems itemBytes wordsOf headOf encode openedSeat freshBench seatOf lesson anyCoupling openRefusals openSaid openedBench takesPart keyingsOf keyings topRank atRank leaders added onAir among smallest howMany anySends airOf benchAir fieldHeard keyingBarred idAllowed sideBarred seatRefusals messageRefusals packetRefusals heardSeat begins toLast orderAfter takesEffect sideAfter heardBench sameField isSent hearing packetSaid audioIn reportOf reportBytes reportRefusals reportSaid reportedBench does after
+unfolding centred distance late missing payload payloadAllowed fieldAllowed afterField allZero itemsBehind itemAllowed allAllowed hasType noTypeTwice runAllowed itemsAllowed itemsOf sqiAmong climaxAmong sideAmong kept quality readerRefusals itemsHere messageOf risingItems itemBytes wordsOf headOf encode kindOf openedSeat freshBench seatOf lesson anyCoupling openRefusals openSaid openedBench takesPart keyingsOf keyings topRank atRank leaders added onAir among smallest howMany anySends airOf benchAir fieldHeard keyingBarred idAllowed sideBarred seatRefusals messageRefusals packetRefusals heardSeat begins toLast orderAfter takesEffect sideAfter heardBench sameField isSent hearing packetSaid audioIn reportOf reportBytes reportRefusals reportSaid reportedBench does after
 tried =
     record {
       opens = refl;

@@ -5,6 +5,7 @@ use mathlib.Core.Bool.{true, false, false≢true}
 use mathlib.Core.List.{List}
 use lib.ListN.{getD}
 use Rattle.packet.specs.Refusals.{NoCase}
+use Rattle.record.specs.Kind.{kindOf}
 use Rattle.record.specs.Record.{noSuchSeat, seatOf, lesson}
 use Rattle.seats.specs.Opening.{openedBench, closedBench}
 use Rattle.hearing.specs.Hearing.{messageIn, fieldHeard, heardBench}
@@ -42,8 +43,9 @@ module _ (b : Bench) (n : ℕ) (hidden : lesson (b .setup) n ≡ true) (real : n
   heard-unseen : (p : List ℕ) → PacketAccepted (b .setup) n (seatOf (b .seats) n) p → low (heardBench b n (messageIn p)) ≡ low b
   unfolding low heardBench
   heard-unseen p h =
-      let no-item = no-item-lesson (lesson (b .setup) n) (b .setup .pair) (messageIn p) (h .may-ask-side) hidden in
-      let unmoved = side-stays (seatOf (b .seats) n .heard .field) (fieldHeard (messageIn p)) (b .standby) (unfold fieldHeard in no-item) in
+      let kind = kindOf (b .setup .kind) in
+      let no-item = no-item-lesson (lesson (b .setup) n) kind (messageIn p) (h .may-ask-side) hidden in
+      let unmoved = side-stays kind (seatOf (b .seats) n .heard .field) (fieldHeard (messageIn p)) (b .standby) (unfold fieldHeard in no-item) in
       simp (set-hidden, flag, order-hidden (b .setup) n, hidden, unmoved)
 
 pub unseen : (b : Bench) (c : Call) → lesson (b .setup) (named c) ≡ true → low (keeping b c .bench) ≡ low b

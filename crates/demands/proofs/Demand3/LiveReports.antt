@@ -10,10 +10,11 @@ use Rattle.writer.specs.Writing.{fromRx, encode}
 use Rattle.packet.specs.declared.message.ClimaxItem.the-variants as climax
 use Rattle.packet.specs.declared.message.Message.{Message}
 use Rattle.packet.specs.declared.message.Rx.{Rx}
+use Rattle.record.specs.Kind.{kindOf, sideTold}
 use Rattle.record.specs.Record.{seatNumbers, noSuchSeat, seatOf, lesson}
 use Rattle.air.specs.Air.{benchAir, aired}
 use Rattle.air.proofs.Kept.{air-unread}
-use Rattle.reporting.specs.Reporting.{squTold, sctTold, sqiTold, sideTold, reportOf, reportBytes, reportRefusals, reportSaid, reportedBench}
+use Rattle.reporting.specs.Reporting.{squTold, sctTold, sqiTold, reportOf, reportBytes, reportRefusals, reportSaid, reportedBench}
 use Rattle.bench.specs.Step.{report, written, does, step, keeping}
 use Rattle.record.specs.declared.seat.Seat.{Seat}
 use Rattle.record.specs.declared.whole.Bench.{Bench}
@@ -55,7 +56,7 @@ calmReport b timestamp sequence s =
       pm = s .heard .field .pm;
       ptts = false;
       sct = sctTold (b .signals);
-      items = record { sqi = sqiTold (b .signals) (b .level); climax = climax.Absent; side = sideTold (b .setup .pair) (b .standby) };
+      items = record { sqi = sqiTold (b .signals) (b .level); climax = climax.Absent; side = sideTold (kindOf (b .setup .kind)) (b .standby) };
     }
 
 calm-report : (b : Bench) (n timestamp : ℕ) → calm (fromRx (reportOf b n timestamp)) ≡ calmReport b timestamp (getD (b .sequences) (n - 1) 0) (seatOf (b .seats) n)

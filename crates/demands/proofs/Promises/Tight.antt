@@ -97,6 +97,12 @@ tight-writer = record {
 
 pub tight-record : TightRecord
 tight-record = record {
+  kind-code = λ k a r s d e. meet;
+  kind-of = λ k a r s d e. meet;
+  has-one-side = λ k a r s d e. meet;
+  item-barred = λ k a r s d e. meet;
+  items-move-side = λ k a r s d e. meet;
+  side-told = λ k a r s d e. meet;
   opened = λ k a r s d e. meet;
   fresh = λ k a r s d e. meet;
   no-such-seat = λ k a r s d e. meet;

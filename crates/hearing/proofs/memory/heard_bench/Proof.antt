@@ -19,8 +19,8 @@ order-after-requires c κs = search needs
 heard-seat-requires : tie.Need-heard-seat-requires
 heard-seat-requires c κs = search needs
 
-mul-t14 : tie.Need-mul-t14
-mul-t14 c = search needs
+mul-t15 : tie.Need-mul-t15
+mul-t15 c = search needs
 
 element-set-from-after : tie.Need-element-set-from-after
 element-set-from-after c = search recordCases
@@ -36,7 +36,7 @@ returns c =
       c .before .heard-seat .ensures,
       c .before .before .order-after .ensures,
       c .before .before .before .field-heard .ensures,
-      c .before .before .before .before .before .before .before .pre .1,
+      c .before .before .before .before .before .before .before .before .pre .1,
     )
 
 pub heard-bench-spec : {M : Type 1} → statement M
@@ -48,7 +48,7 @@ heard-bench-spec =
     cast-i
     order-after-requires
     heard-seat-requires
-    mul-t14
+    mul-t15
     element-set-from-after
     side-after-requires
     returns)

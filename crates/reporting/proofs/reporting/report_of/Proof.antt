@@ -9,6 +9,9 @@ use Rattle.reporting.proofs.reporting.report_of.Tie as tie
 seat-of-requires : tie.Need-seat-of-requires
 seat-of-requires c κs = search needs
 
+kind-of-requires : tie.Need-kind-of-requires
+kind-of-requires c κs = search needs
+
 sequence-of-requires : tie.Need-sequence-of-requires
 sequence-of-requires c κs = search needs
 
@@ -24,14 +27,15 @@ side-told-requires c κs = search needs
 returns : tie.Need-returns
 unfolding reportOf
 returns c =
-    let level = c .before .before .before .before .before .before .before .before .before .before .before .before .before .before .args .b .level in
+    let level = c .before .before .before .before .before .before .before .before .before .before .before .before .before .before .before .args .b .level in
     let back : toZ w16 (ofZ w16 level) ≡ level = search needs in
     simp (
       c .side-told .ensures,
       c .before .sqi-told .ensures,
       c .before .before .before .before .id-told .ensures,
       c .before .before .before .before .before .before .sequence-of .ensures,
-      c .before .before .before .before .before .before .before .before .before .before .before .seat-of .ensures,
+      c .before .before .before .before .before .before .before .kind-of .ensures,
+      c .before .before .before .before .before .before .before .before .before .before .before .before .seat-of .ensures,
       back,
     )
 
@@ -40,6 +44,7 @@ report-of-spec =
     tie.close
     (tie.spec
     seat-of-requires
+    kind-of-requires
     sequence-of-requires
     id-told-requires
     sqi-told-requires
