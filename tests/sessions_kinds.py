@@ -1,42 +1,40 @@
 """The three kinds of radio, 02's tenth request: each item and each side event on each kind. Bytes of reports are put together by hand:
 the main/standby item is 51 and 00 for main, 80 for standby (01, The packet; 000, table 8). See sessions.py."""
 
-from model import NORMAL, TEST
+from model import COUPLING, NORMAL, TEST
 from talk import MAIN, PAIR, SHARED, SINGLE, STANDBY
 
 TITLE = "02, the kinds of radio"
 REFUSED = "refused 23 cause 0"
 SETUPS = {"single": SINGLE, "pair": PAIR, "shared": SHARED}
-NONE = None
 
 # Of a seat's first packet on a radio with main in use: the item, and the answer to it.
 FIRST_ITEMS = {
-    "single": ((NONE, "reply=0 side=main"), (MAIN, REFUSED), (STANDBY, REFUSED)),
-    "pair": ((NONE, "reply=0 side=main"), (MAIN, "reply=1 side=main"), (STANDBY, "reply=1 side=standby")),
-    "shared": ((NONE, "reply=0 side=main"), (MAIN, "reply=1 side=main"), (STANDBY, REFUSED)),
+    "single": ((None, "reply=0 side=main"), (MAIN, REFUSED), (STANDBY, REFUSED)),
+    "pair": ((None, "reply=0 side=main"), (MAIN, "reply=1 side=main"), (STANDBY, "reply=1 side=standby")),
+    "shared": ((None, "reply=0 side=main"), (MAIN, "reply=1 side=main"), (STANDBY, REFUSED)),
 }
 # The same with standby in use; a single radio never has it.
 ON_STANDBY = {
-    "pair": ((NONE, "reply=0 side=standby"), (MAIN, "reply=1 side=main"), (STANDBY, "reply=1 side=standby")),
-    "shared": ((NONE, "reply=0 side=standby"), (MAIN, "reply=1 side=standby"), (STANDBY, REFUSED)),
+    "pair": ((None, "reply=0 side=standby"), (MAIN, "reply=1 side=main"), (STANDBY, "reply=1 side=standby")),
+    "shared": ((None, "reply=0 side=standby"), (MAIN, "reply=1 side=standby"), (STANDBY, REFUSED)),
 }
-# A side event's answer, and the last two bytes of a report behind it: X is 0 and no item, or the item.
+# A side event's answer, and the words of a report behind it: off, X, and the item where X is 1.
 EVENTS = {
-    "single": (("main", REFUSED, "0000"), ("standby", REFUSED, "0000"), ("main", REFUSED, "0000")),
-    "pair": (("main", "ok", "5100"), ("standby", "ok", "5180"), ("main", "ok", "5100")),
-    "shared": (("main", "ok", "5100"), ("standby", "ok", "5100"), ("main", "ok", "5100")),
+    "single": (("main", REFUSED, "00000000"), ("standby", REFUSED, "00000000"), ("main", REFUSED, "00000000")),
+    "pair": (("main", "ok", "00015100"), ("standby", "ok", "00015180"), ("main", "ok", "00015100")),
+    "shared": (("main", "ok", "00015100"), ("standby", "ok", "00015100"), ("main", "ok", "00015100")),
 }
 
 
 def first_items(s):
     for kind, answers in FIRST_ITEMS.items():
         s.session(f"{TITLE}: {kind}: each item of a live seat's first packet, and of a lesson seat's", SETUPS[kind])
-        s.open("123678")
+        s.open("12378")
         for seat, (item, expected) in zip((1, 2, 3), answers):
             s.packet(seat, expected, id=0, mss=item)
             if expected != REFUSED:
                 s.say("side main", REFUSED if kind == "single" else "ok")
-        s.packet(6, "reply=0", id=0)
         for seat, item in ((7, MAIN), (8, STANDBY), (7, STANDBY), (8, MAIN)):
             s.packet(seat, REFUSED, id=0, mss=item)
         s.packet(7, "reply=0 side=main", id=0)
@@ -56,21 +54,20 @@ def events(s):
     for kind, answers in EVENTS.items():
         s.session(f"{TITLE}: {kind}: each side event, and the item in the report behind it", SETUPS[kind])
         s.open("1")
-        field = "0000" if kind == "single" else "0001"
-        for side, expected, item in answers:
+        for side, expected, words in answers:
             s.say(f"side {side}", expected)
-            s.say("report 1 0 - 20", f"000000640167" + "0001" + field + item)
+            s.say("report 1 0 - 20", f"0000006401670001{words}")
 
 
 def item_of_one(s):
     s.session(f"{TITLE}: shared: an item of 1 is refused behind 19 to 22, and changes nothing", SHARED)
     s.open("2")
-    s.packet(2, "refused 23 cause 0", ptt=NORMAL, mss=STANDBY, sequence=50, ssrc=9)
+    s.packet(2, REFUSED, ptt=NORMAL, mss=STANDBY, sequence=50, ssrc=9)
     s.note("a refused first packet fixes neither SSRC nor sequence")
     s.packet(2, "missing=0 reply=1 side=main", mss=MAIN, sequence=10)
     s.packet(2, "refused 19 cause 0", mss=STANDBY, sequence=10, ssrc=3, id=3)
     s.packet(2, "refused 20 cause 0", mss=STANDBY, sequence=10, id=3)
-    s.packet(2, "refused 21 cause 0", mss=STANDBY, sequence=11, ptt=2, id=3)
+    s.packet(2, "refused 21 cause 0", mss=STANDBY, sequence=11, ptt=COUPLING, id=3)
     s.packet(2, "refused 22 cause 0", mss=STANDBY, sequence=11, ptt=NORMAL, id=3)
     s.packet(2, REFUSED, mss=STANDBY, sequence=11, ptt=NORMAL)
     s.air("-", 0)
@@ -126,13 +123,13 @@ def sent_by_ticks(s):
     s.say("tick 200 0 208", f"ok closed=- due=12345678 used=176 {records}")
     s.say("received 1 -850", "ok")
     s.say("tick 200 0 207", "refused 26 cause 0")
-    records = "".join(f"0018907B000800000000{100 * seat:08X}01670002100111385100" + "0000" for seat in range(1, 9))
+    records = "".join(f"0018907B000800000000{100 * seat:08X}016700021001113851000000" for seat in range(1, 9))
     s.say("tick 200 0 208", f"ok closed=- due=12345678 used=208 {records}")
 
 
 def with_the_class(s):
     """Demand 3 on a shared radio: the tower is told the same without the trainee, and with him, whatever he sends."""
-    told = "ok len=20 907B0000000000000000006401670001204151" + "00"
+    told = "ok len=20 907B000000000000000000640167000120415100"
     s.session(f"{TITLE}: shared: the tower alone", SHARED)
     s.open("1")
     s.say("side standby", "ok")

@@ -59,7 +59,8 @@ def wrong_words(s):
     expects(s, "setup", "", "78 0167 pair lockout", "78 0167 pair lockout interruption more", "9 0167 pair lockout interruption")
     expects(s, "setup", *(f"{seats} 0167 pair lockout interruption" for seats in ("0", "77", "7-", "--", "7,8", "787", "a")))
     expects(s, "setup", *(f"- {ext} pair lockout interruption" for ext in ("-", "10000", "0x0167", "016G", "-1")))
-    expects(s, "setup", "- 0 Pair lockout interruption", "- 0 pair interruption lockout", "- 0 pair lockout lockout")
+    expects(s, "setup", "- 0 Pair lockout interruption", "- 0 Shared lockout interruption", "- 0 share lockout interruption", "- 0 pair shared lockout interruption",
+            "- 0 single|pair lockout interruption", "- 0 pair interruption lockout", "- 0 pair lockout lockout")
     expects(s, "open", "", "1", "1 txrx 200 10 0", "1 txrx 200 10 0 0 0", "1 TxRx 200 10 0 0", "txrx 1 200 10 0 0")
     expects(s, "open", *(f"{seat} txrx 200 10 0 0" for seat in ("256", "-1", "+1", "1.", "0x1", "-", "1e0", "99999999999999999999")))
     expects(s, "open", "1 txrx 65536 10 0 0", "1 txrx 200 256 0 0", "1 txrx 200 10 4294967296 0", "1 txrx 200 10 0 65536")

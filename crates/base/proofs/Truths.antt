@@ -68,10 +68,6 @@ pub and-rest : (a b : Bool) → a && b ≡ false → a ≡ true → b ≡ false
 and-rest true b e h = e
 and-rest false b e h = cc
 
-pub and-rest-left : (a b : Bool) → a && b ≡ false → b ≡ true → a ≡ false
-and-rest-left true b e h = cc
-and-rest-left false b e h = refl
-
 pub or-rest : (a b : Bool) → a || b ≡ true → a ≡ false → b ≡ true
 or-rest true b e h = cc
 or-rest false b e h = e

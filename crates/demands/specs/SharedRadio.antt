@@ -67,4 +67,4 @@ pub record SharedRadio : Type 0 where
   pub zero-told : (b : Bench) (n timestamp : ℕ) → IsShared b → reportOf b n timestamp .side ≡ item.Main
   pub zero-read : (b : Bench) → AirRight b → (n timestamp : ℕ) (sound : List ℕ) (room : ℕ) (bytes : List ℕ) → IsShared b
       → Narrow (b .setup .ext) (fromRx (reportOf b n timestamp)) → keeping b (report n timestamp sound room) .answer ≡ accepted (written bytes)
-      → (m : Rx) → readRx (b .setup .ext) bytes ≡ accepted m → m .side ≡ item.Main
+      → (m : Rx) × (readRx (b .setup .ext) bytes ≡ accepted m) × (m .side ≡ item.Main)

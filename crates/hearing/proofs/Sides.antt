@@ -1,5 +1,5 @@
--- The main/standby item: who may send none, that a shared radio takes only 0, and which packets leave the side.
-use mathlib.Core.Path.{_≡_, refl}
+-- The main/standby item: which one a kind of radio bars, who may send none, and which packets leave the side.
+use mathlib.Core.Path.{_≡_, refl, ap, sym, _∙_}
 use mathlib.Core.Bool.{Bool, true, false, _&&_}
 use Rattle.base.proofs.Truths.{and-none, and-rest, or-left, or-right}
 use Rattle.packet.specs.declared.message.SideItem.{SideItem}
@@ -11,6 +11,17 @@ use Rattle.record.specs.declared.kind.Kind.the-variants.{Single, Shared}
 use Rattle.record.specs.declared.seat.Field.{Field}
 use Rattle.hearing.specs.Hearing.{hasSide, isStandby, sideBarred, takesEffect, sideAfter}
 
+-- any on a single radio, 1 on a shared one
+pub single-bars : (item : SideItem) → itemBarred Single item ≡ hasSide item
+single-bars side.Absent = refl
+single-bars side.Main = refl
+single-bars side.Standby = refl
+
+pub shared-bars : (item : SideItem) → itemBarred Shared item ≡ isStandby item
+shared-bars side.Absent = refl
+shared-bars side.Main = refl
+shared-bars side.Standby = refl
+
 -- 23 not met
 module _ (isLesson : Bool) (kind : Kind) (m : Tx) (passed : sideBarred isLesson kind m ≡ false) where
   by-kind : itemBarred kind (m .side) ≡ false
@@ -18,20 +29,10 @@ module _ (isLesson : Bool) (kind : Kind) (m : Tx) (passed : sideBarred isLesson 
   by-kind = or-left (itemBarred kind (m .side)) (isLesson && hasSide (m .side)) passed
 
   pub no-item-single : kind ≡ Single → hasSide (m .side) ≡ false
-  no-item-single e = none-passes (m .side) (rw e at by-kind)
-    where
-      none-passes : (item : SideItem) → itemBarred Single item ≡ false → hasSide item ≡ false
-      none-passes side.Absent e = refl
-      none-passes side.Main e = e
-      none-passes side.Standby e = e
+  no-item-single e = sym (ap (λ (k : Kind). itemBarred k (m .side)) e ∙ single-bars (m .side)) ∙ by-kind
 
   pub zero-or-none-shared : kind ≡ Shared → isStandby (m .side) ≡ false
-  zero-or-none-shared e = one-fails (m .side) (rw e at by-kind)
-    where
-      one-fails : (item : SideItem) → itemBarred Shared item ≡ false → isStandby item ≡ false
-      one-fails side.Absent e = refl
-      one-fails side.Main e = refl
-      one-fails side.Standby e = e
+  zero-or-none-shared e = sym (ap (λ (k : Kind). itemBarred k (m .side)) e ∙ shared-bars (m .side)) ∙ by-kind
 
   pub no-item-lesson : isLesson ≡ true → hasSide (m .side) ≡ false
   unfolding sideBarred

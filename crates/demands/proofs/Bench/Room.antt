@@ -1,11 +1,10 @@
 -- The room that a tick asks for.
-use Prim.Native.Nat.{ℕ, _+_, _*_, _≤_, _<_}
+use Prim.Native.Nat.{ℕ, _*_, _≤_, _<_}
 use mathlib.Core.Path.{_≡_, refl, ap, _∙_}
 use mathlib.Core.Logic.{inl, inr, _↔_}
 use native.Mathlib.Omega.{arith}
 use borrow.Author.Tests.{ltb-true, ltb-false, lt-ltb, le-ltb}
 use lib.ListN.{length}
-use Rattle.base.specs.Bytes.{bit}
 use Rattle.base.specs.Lists.{howMany}
 use Rattle.base.proofs.Lists.{many-changed}
 use Rattle.packet.specs.Refusals.{FirstCase, refused}

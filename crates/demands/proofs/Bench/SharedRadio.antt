@@ -1,32 +1,27 @@
 -- Main and standby behind one address.
 use Prim.Native.Nat.{ℕ}
 use mathlib.Core.Path.{_≡_, refl, sym, ap, _∙_}
-use mathlib.Core.Bool.{Bool, true, false, _&&_, _||_}
+use mathlib.Core.Bool.{Bool, true, false}
 use mathlib.Core.List.{List, [], _∷_}
-use mathlib.Core.Logic.{inl, inr}
-use lib.Dec.{eqb}
-use lib.ListN.{length}
-use borrow.Author.Tests.{eq-eqb}
-use Rattle.base.proofs.Truths.{and-none, or-none}
-use Rattle.packet.specs.Refusals.{Case, FirstCase, NoCase, accepted, refused}
+use Rattle.base.proofs.Truths.{or-none}
+use Rattle.packet.specs.Refusals.{NoCase, accepted, refused}
 use Rattle.packet.proofs.Judged.{meets-none, accepts}
 use Rattle.reader.specs.Reading.{readerRefusals, readRx}
 use Rattle.writer.specs.Writing.{fromRx}
-use Rattle.packet.specs.declared.message.SideItem.{SideItem}
 use Rattle.packet.specs.declared.message.SideItem.the-variants as item
 use Rattle.packet.specs.declared.message.Rx.{Rx}
-use Rattle.record.specs.Kind.{kindCode, kindOf, hasOneSide, itemBarred, itemsMoveSide, sideTold}
+use Rattle.record.specs.Kind.{kindCode, kindOf, itemsMoveSide, sideTold}
 use Rattle.record.specs.Record.{freshBench, seatOf, lesson, withSide}
 use Rattle.seats.specs.Opening.{openedBench, closedBench, seatRefusals}
 use Rattle.seats.specs.Ticking.{tickedBench}
 use Rattle.seats.specs.Radio.{sideRefusals, sideSaid}
 use Rattle.air.specs.Air.{aired}
 use Rattle.hearing.specs.Hearing.{hasSide, isStandby, sideBarred, fieldHeard, messageIn, messageRefusals, packetRefusals, heardBench, hearing}
-use Rattle.hearing.proofs.Sides.{zero-or-none-shared, no-item-lesson, side-unmoved}
+use Rattle.hearing.proofs.Sides.{shared-bars, zero-or-none-shared, no-item-lesson, side-unmoved}
 use Rattle.hearing.proofs.Accepted.{PacketAccepted, packet-accepted}
 use Rattle.reporting.specs.Reporting.{reportOf, reportBytes, reportRefusals, reportSaid, reportedBench}
 use Rattle.sending.specs.Sending.{sentBench}
-use Rattle.bench.specs.Step.{Call, opening, closing, packet, tick, report, received, transmitter, side, Said, done, own, heard, ticked, written, does, keeping, after}
+use Rattle.bench.specs.Step.{Call, opening, closing, packet, tick, report, received, transmitter, side, Said, done, heard, written, does, keeping, after}
 use Rattle.record.specs.declared.kind.Kind.{Kind}
 use Rattle.record.specs.declared.kind.Kind.the-variants.{Single, Pair, Shared}
 use Rattle.record.specs.declared.setup.Setup.{Setup}
@@ -35,10 +30,12 @@ use Rattle.demands.specs.ExactCalls.{refusalsOf}
 use Rattle.demands.specs.AirKept.{AirRight}
 use Rattle.demands.specs.RoundTrip.{Narrow}
 use Rattle.demands.specs.SharedRadio.{IsShared, sideBy, lastSide, SharedRadio}
+use Rattle.demands.proofs.Demand1.Exact.{holdsFor, first-holds}
 use Rattle.demands.proofs.Demand1.Calls.{saidBy, benchAfter, call-answer, after-call}
 use Rattle.demands.proofs.Demand1.ExactCalls.{calls-exact}
 use Rattle.demands.proofs.Demand2.RoundTrip.{reports-read-back}
 use Rattle.demands.proofs.Bench.SeatAfter.{setup-kept}
+use Rattle.demands.proofs.Bench.AirKept.{air-kept}
 
 codes : (kind : Kind) → kindOf (kindCode kind) ≡ kind
 unfolding kindOf
@@ -57,17 +54,19 @@ module _ (b : Bench) (shared : IsShared b) where
   unfolding does sideSaid sideRefusals
   event-accepted standby = simp shared
 
+  -- every other call leaves the side, accepted or refused
+  stays : (c : Call) → benchAfter b c .standby ≡ b .standby → keeping b c .bench .standby ≡ b .standby
+  stays c e = after-call (λ (x : Bench). x .standby ≡ b .standby) b c refl (λ none. e)
+
   by-each-call : (c : Call) → keeping b c .bench .standby ≡ sideBy (b .standby) c
+  by-each-call (opening n r) = stays (opening n r) (unfold openedBench in refl)
+  by-each-call (closing n) = stays (closing n) (unfold closedBench in refl)
+  by-each-call (packet n p) = stays (packet n p) (packet-unmoved n p)
+  by-each-call (tick ms timestamp room) = stays (tick ms timestamp room) (unfold sentBench tickedBench in refl)
+  by-each-call (report n timestamp sound room) = stays (report n timestamp sound room) (unfold reportedBench in refl)
+  by-each-call (received signals level) = stays (received signals level) refl
+  by-each-call (transmitter healthy) = stays (transmitter healthy) refl
   by-each-call (side standby) = ap (λ o. o .bench .standby) (event-accepted standby)
-  by-each-call (opening n r) = after-call (λ (x : Bench). x .standby ≡ b .standby) b (opening n r) refl (λ none. unfold openedBench in refl)
-  by-each-call (closing n) = after-call (λ (x : Bench). x .standby ≡ b .standby) b (closing n) refl (λ none. unfold closedBench in refl)
-  by-each-call (packet n p) = after-call (λ (x : Bench). x .standby ≡ b .standby) b (packet n p) refl (λ none. packet-unmoved n p)
-  by-each-call (tick ms timestamp room) =
-      after-call (λ (x : Bench). x .standby ≡ b .standby) b (tick ms timestamp room) refl (λ none. unfold sentBench tickedBench in refl)
-  by-each-call (report n timestamp sound room) =
-      after-call (λ (x : Bench). x .standby ≡ b .standby) b (report n timestamp sound room) refl (λ none. unfold reportedBench in refl)
-  by-each-call (received signals level) = after-call (λ (x : Bench). x .standby ≡ b .standby) b (received signals level) refl (λ none. refl)
-  by-each-call (transmitter healthy) = after-call (λ (x : Bench). x .standby ≡ b .standby) b (transmitter healthy) refl (λ none. refl)
 
 run : (b : Bench) (cs : List Call) → IsShared b → after keeping b cs .standby ≡ lastSide (b .standby) cs
 unfolding after lastSide
@@ -76,30 +75,16 @@ run b (c ∷ cs) shared =
     run (keeping b c .bench) cs (ap (λ (setup : Setup). kindOf (setup .kind)) (setup-kept b c) ∙ shared)
     ∙ ap (λ (inUse : Bool). lastSide inUse cs) (by-each-call b shared c)
 
--- ---- an accepted call tells what saidBy has, and met no case
-
+-- an accepted call met no case, and tells what saidBy has
 was-accepted : (b : Bench) (c : Call) (said : Said) → keeping b c .answer ≡ accepted said → NoCase (refusalsOf b c) × (saidBy b c ≡ said)
 was-accepted b c said e = meets-none (refusalsOf b c) (saidBy b c) said (sym (call-answer b c) ∙ e)
-
-abbrev sideOf : Said → Bool
-sideOf (heard missing reply standby sound) = standby
-sideOf done = false
-sideOf (own id) = false
-sideOf (ticked closed due records) = false
-sideOf (written bytes) = false
-
-abbrev bytesOf : Said → List ℕ
-bytesOf (written bytes) = bytes
-bytesOf done = []
-bytesOf (own id) = []
-bytesOf (heard missing reply standby sound) = []
-bytesOf (ticked closed due records) = []
 
 side-answered : (b : Bench) (n : ℕ) (p : List ℕ) (missing : ℕ) (reply standby : Bool) (sound : List ℕ) → IsShared b
     → keeping b (packet n p) .answer ≡ accepted (heard missing reply standby sound) → standby ≡ b .standby
 unfolding hearing
 side-answered b n p missing reply standby sound shared e =
-    sym (ap sideOf (was-accepted b (packet n p) (heard missing reply standby sound) e .1)) ∙ packet-unmoved b shared n p
+    let said : standby ≡ heardBench b n (messageIn p) .standby = cc (was-accepted b (packet n p) (heard missing reply standby sound) e .1) in
+    said ∙ packet-unmoved b shared n p
 
 -- ---- 23
 
@@ -117,28 +102,12 @@ lesson-refused : (b : Bench) (n : ℕ) (p : List ℕ) (said : Said) → lesson (
 lesson-refused b n p said is-lesson e =
     no-item-lesson (lesson (b .setup) n) (kindOf (b .setup .kind)) (messageIn p) (packet-passed b n p said e .may-ask-side) is-lesson
 
--- whether a case of that number holds
-holdsFor : ℕ → List Case → Bool
-holdsFor n [] = false
-holdsFor n (c ∷ cs) = (eqb (c .number) n && c .holds) || holdsFor n cs
-
-first-holds : (n : ℕ) (cs : List Case) → FirstCase n cs → holdsFor n cs ≡ true
-unfolding holdsFor
-first-holds n [] none = absurd none
-first-holds n (c ∷ cs) (inl h) = simp (h .0, eq-eqb (c .number) n (h .1))
-first-holds n (c ∷ cs) (inr h) = simp (h .0, and-none, first-holds n cs (h .1))
-
 one-alone : (b : Bench) (n : ℕ) (p : List ℕ) → IsShared b → lesson (b .setup) n ≡ false
     → keeping b (packet n p) .answer ≡ refused 23 0 → isStandby (messageIn p .side) ≡ true
 unfolding packetRefusals seatRefusals readerRefusals messageRefusals holdsFor sideBarred
 one-alone b n p shared live e =
     let barred = first-holds 23 (refusalsOf b (packet n p)) (calls-exact .each-call b (packet n p) .only-then 23 0 e .0) in
-    one-fails (messageIn p .side) (simp (shared, live, or-none) at barred)
-  where
-    one-fails : (i : SideItem) → itemBarred Shared i ≡ true → isStandby i ≡ true
-    one-fails item.Absent e = e
-    one-fails item.Main e = e
-    one-fails item.Standby e = e
+    simp (shared, live, or-none, shared-bars) at barred
 
 -- ---- the item that is told
 
@@ -148,14 +117,12 @@ zero-told b n timestamp shared = ap (λ (kind : Kind). sideTold kind (b .standby
 
 zero-read : (b : Bench) → AirRight b → (n timestamp : ℕ) (sound : List ℕ) (room : ℕ) (bytes : List ℕ) → IsShared b
     → Narrow (b .setup .ext) (fromRx (reportOf b n timestamp)) → keeping b (report n timestamp sound room) .answer ≡ accepted (written bytes)
-    → (m : Rx) → readRx (b .setup .ext) bytes ≡ accepted m → m .side ≡ item.Main
-unfolding reportSaid
-zero-read b right n timestamp sound room bytes shared narrow e m read =
-    let (none, said) = was-accepted b (report n timestamp sound room) (written bytes) e in
-    let long = length (reportBytes b n timestamp sound) in
-    let back = reports-read-back b right n timestamp sound room long narrow (accepts long (reportRefusals b n timestamp sound room) none) in
-    let same : reportOf b n timestamp ≡ m = meets-none [] (reportOf b n timestamp) m (sym back ∙ ap (λ s. readRx (b .setup .ext) (bytesOf s)) said ∙ read) .1 in
-    sym (ap (λ (r : Rx). r .side) same) ∙ zero-told b n timestamp shared
+    → (m : Rx) × (readRx (b .setup .ext) bytes ≡ accepted m) × (m .side ≡ item.Main)
+unfolding reportSaid reportBytes
+zero-read b right n timestamp sound room bytes shared narrow e =
+    let none = was-accepted b (report n timestamp sound room) (written bytes) e .0 in
+    let back = reports-read-back b right n timestamp sound room _ narrow (accepts _ (reportRefusals b n timestamp sound room) none) in
+    (reportOf b n timestamp, ap (readRx (b .setup .ext)) (air-kept .told b n timestamp sound bytes room e) ∙ back, zero-told b n timestamp shared)
 
 pub shared-radio : SharedRadio
 shared-radio =

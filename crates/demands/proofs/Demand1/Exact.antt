@@ -1,9 +1,12 @@
 -- Each refusal in exactly its case.
 use Prim.Native.Nat.{ℕ}
 use mathlib.Core.Path.{_≡_, refl, ap}
-use mathlib.Core.Bool.{Bool, true, false, cond}
+use mathlib.Core.Bool.{Bool, true, false, cond, _&&_, _||_}
 use mathlib.Core.List.{List, [], _∷_}
 use mathlib.Core.Logic.{inl, inr}
+use lib.Dec.{eqb}
+use borrow.Author.Tests.{eq-eqb}
+use Rattle.base.proofs.Truths.{and-none}
 use Rattle.packet.specs.Refusals.{Case, FirstCase, refused, causeOf, judged}
 use Rattle.reader.specs.Reading.{readerRefusals, messageOf, read, readTx, readRx, asTx, asRx}
 use Rattle.packet.specs.declared.message.Direction.the-variants as direction
@@ -28,6 +31,17 @@ module _ {A : Type 0} (a : A) where
   pub exact-judged : (cs : List Case) → Exact cs (judged cs a)
   exact-judged cs =
       record { refuses = refuses cs; only-then = only-then cs; accepts = λ h. (a, accepts a cs h); meets-none = λ b e. meets-none cs a b e .0 }
+
+-- So a case of the number that is answered holds.
+unfoldable pub holdsFor : ℕ → List Case → Bool
+holdsFor n [] = false
+holdsFor n (c ∷ cs) = (eqb (c .number) n && c .holds) || holdsFor n cs
+
+pub first-holds : (n : ℕ) (cs : List Case) → FirstCase n cs → holdsFor n cs ≡ true
+unfolding holdsFor
+first-holds n [] none = absurd none
+first-holds n (c ∷ cs) (inl h) = simp (h .0, eq-eqb (c .number) n (h .1))
+first-holds n (c ∷ cs) (inr h) = simp (h .0, and-none, first-holds n cs (h .1))
 
 pub readers-exact : ReadersExact
 unfolding read readTx readRx
