@@ -29,16 +29,15 @@ ROOT = pathlib.Path(__file__).resolve().parent.parent
 MACHINE = "x86_64"
 RUNS = 25
 
-# A pair: as a set-up says it, and as it did before request 10.
-KIND, PAIR_BEFORE = "kind: bench::kind_code(bench::Kind::Pair)", "pair: true"
-
 # Each call of the library stands in one place alone, so that the compiler treats the calls of every checkout alike.
 CALLS = """
 use bench::Bench;
 use bench::CallType;
+use bench::Kind;
 use bench::PacketAnswer;
 use bench::Request;
 use bench::Setup;
+use bench::kind_code;
 use writer::Written;
 
 #[no_mangle]
@@ -46,7 +45,7 @@ pub extern "C" fn open_all(held: &mut Bench) {
     let setup = Setup {
         lesson: [false, false, false, false, false, false, true, true],
         ext: 0x0167,
-        KIND,
+        kind: kind_code(Kind::Pair),
         equal_summation: false,
         coupling_summation: false,
     };
@@ -199,8 +198,7 @@ def compiled(kit, root, folder):
     """The program over the library of a checkout, made in a folder; as it is run."""
     own = kit / "on" / MACHINE
     tools, calls, loops = own / "toolchain", folder / "calls.a", folder / "loops.o"
-    has_kinds = (root / "crates/record/src/kind.rt").is_file()
-    (folder / "lib.rt").write_text(CALLS.replace("KIND", KIND if has_kinds else PAIR_BEFORE))
+    (folder / "lib.rt").write_text(CALLS)
     (folder / "loops.c").write_text(LOOPS)
     libs = [word for name, source in libraries(root, kit).items() for word in ("--lib", f"{name}={source}")]
     # the command behind `rt try`, which asks for no proof

@@ -11,7 +11,7 @@ use Rattle.writer.specs.Writing.{fromRx}
 use Rattle.packet.specs.declared.message.SideItem.the-variants as item
 use Rattle.packet.specs.declared.message.Rx.{Rx}
 use Rattle.record.specs.Kind.{kindCode, kindOf}
-use Rattle.record.specs.Record.{freshBench, lesson, withSide}
+use Rattle.record.specs.Record.{freshBench, seatOf, lesson, withSide}
 use Rattle.air.specs.Air.{aired}
 use Rattle.hearing.specs.Hearing.{hasSide, isStandby, messageIn}
 use Rattle.reporting.specs.Reporting.{reportOf}
@@ -54,6 +54,9 @@ pub record SharedRadio : Type 0 where
   -- an accepted packet answers the side really in use, which it leaves as it was
   pub side-answered : (b : Bench) (n : ℕ) (p : List ℕ) (missing : ℕ) (reply standby : Bool) (sound : List ℕ) → IsShared b
       → keeping b (packet n p) .answer ≡ accepted (heard missing reply standby sound) → standby ≡ b .standby
+  -- and an item of 0 is a value that can differ, as on a pair: "Reply now" where the packet before it had none (of any item, on every kind)
+  pub zero-differs : (b : Bench) (n : ℕ) (p : List ℕ) (missing : ℕ) (reply standby : Bool) (sound : List ℕ) → seatOf (b .seats) n .heard .field .sided ≡ false
+      → hasSide (messageIn p .side) ≡ true → keeping b (packet n p) .answer ≡ accepted (heard missing reply standby sound) → reply ≡ true
   -- "23 also for an item of 1 here": no packet with one is accepted, and of a live seat no other is refused with 23
   pub one-refused : (b : Bench) (n : ℕ) (p : List ℕ) (said : Said) → IsShared b
       → keeping b (packet n p) .answer ≡ accepted said → isStandby (messageIn p .side) ≡ false

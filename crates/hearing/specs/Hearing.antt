@@ -3,7 +3,7 @@ use Prim.Native.Nat.{ℕ, _+_, _*_, _-_}
 use mathlib.Core.Bool.{Bool, true, false, cond, not, _&&_, _||_, Bool·beq}
 use mathlib.Core.List.{List, [], _∷_, _++_}
 use lib.Dec.{eqb, leb}
-use lib.ListN.{length, set, getD}
+use lib.ListN.{length, getD}
 use Rattle.base.specs.Bytes.{partOf}
 use Rattle.base.specs.Order.{otherSsrc, late, missing}
 use Rattle.packet.specs.Packet.{payload, payloadAt, off, coupling, test}

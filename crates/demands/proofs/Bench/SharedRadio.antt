@@ -1,22 +1,23 @@
 -- Main and standby behind one address.
 use Prim.Native.Nat.{ℕ}
 use mathlib.Core.Path.{_≡_, refl, sym, ap, _∙_}
-use mathlib.Core.Bool.{Bool, true, false}
+use mathlib.Core.Bool.{Bool, true, false, not}
 use mathlib.Core.List.{List, [], _∷_}
-use Rattle.base.proofs.Truths.{or-none}
+use Rattle.base.proofs.Truths.{and-none, or-none}
 use Rattle.packet.specs.Refusals.{NoCase, accepted, refused}
 use Rattle.packet.proofs.Judged.{meets-none, accepts}
 use Rattle.reader.specs.Reading.{readerRefusals, readRx}
 use Rattle.writer.specs.Writing.{fromRx}
 use Rattle.packet.specs.declared.message.SideItem.the-variants as item
 use Rattle.packet.specs.declared.message.Rx.{Rx}
+use Rattle.packet.specs.declared.message.Tx.{Tx}
 use Rattle.record.specs.Kind.{kindCode, kindOf, itemsMoveSide, sideTold}
 use Rattle.record.specs.Record.{freshBench, seatOf, lesson, withSide}
 use Rattle.seats.specs.Opening.{openedBench, closedBench, seatRefusals}
 use Rattle.seats.specs.Ticking.{tickedBench}
 use Rattle.seats.specs.Radio.{sideRefusals, sideSaid}
 use Rattle.air.specs.Air.{aired}
-use Rattle.hearing.specs.Hearing.{hasSide, isStandby, sideBarred, fieldHeard, messageIn, messageRefusals, packetRefusals, heardBench, hearing}
+use Rattle.hearing.specs.Hearing.{hasSide, isStandby, sideBarred, fieldHeard, messageIn, messageRefusals, packetRefusals, heardBench, sameField, hearing}
 use Rattle.hearing.proofs.Sides.{shared-bars, zero-or-none-shared, no-item-lesson, side-unmoved}
 use Rattle.hearing.proofs.Accepted.{PacketAccepted, packet-accepted}
 use Rattle.reporting.specs.Reporting.{reportOf, reportBytes, reportRefusals, reportSaid, reportedBench}
@@ -25,6 +26,7 @@ use Rattle.bench.specs.Step.{Call, opening, closing, packet, tick, report, rece
 use Rattle.record.specs.declared.kind.Kind.{Kind}
 use Rattle.record.specs.declared.kind.Kind.the-variants.{Single, Pair, Shared}
 use Rattle.record.specs.declared.setup.Setup.{Setup}
+use Rattle.record.specs.declared.seat.Field.{Field}
 use Rattle.record.specs.declared.whole.Bench.{Bench}
 use Rattle.demands.specs.ExactCalls.{refusalsOf}
 use Rattle.demands.specs.AirKept.{AirRight}
@@ -86,6 +88,18 @@ side-answered b n p missing reply standby sound shared e =
     let said : standby ≡ heardBench b n (messageIn p) .standby = cc (was-accepted b (packet n p) (heard missing reply standby sound) e .1) in
     said ∙ packet-unmoved b shared n p
 
+differs : (old : Field) (m : Tx) → old .sided ≡ false → hasSide (m .side) ≡ true → sameField old (fieldHeard m) ≡ false
+unfolding sameField fieldHeard
+differs old m none has = simp (none, has, and-none)
+
+zero-differs : (b : Bench) (n : ℕ) (p : List ℕ) (missing : ℕ) (reply standby : Bool) (sound : List ℕ) → seatOf (b .seats) n .heard .field .sided ≡ false
+    → hasSide (messageIn p .side) ≡ true → keeping b (packet n p) .answer ≡ accepted (heard missing reply standby sound) → reply ≡ true
+unfolding hearing
+zero-differs b n p missing reply standby sound none has e =
+    let old = seatOf (b .seats) n .heard .field in
+    let said : reply ≡ not (sameField old (fieldHeard (messageIn p))) = cc (was-accepted b (packet n p) (heard missing reply standby sound) e .1) in
+    said ∙ ap not (differs old (messageIn p) none has)
+
 -- ---- 23
 
 packet-passed : (b : Bench) (n : ℕ) (p : List ℕ) (said : Said) → keeping b (packet n p) .answer ≡ accepted said
@@ -132,6 +146,7 @@ shared-radio =
       in-every-run = λ setup cs shared. unfold freshBench in run (freshBench setup) cs shared;
       event-accepted = λ b standby shared. event-accepted b shared standby;
       side-answered = side-answered;
+      zero-differs = zero-differs;
       one-refused = one-refused;
       one-alone = one-alone;
       lesson-refused = lesson-refused;
