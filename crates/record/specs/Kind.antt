@@ -24,7 +24,8 @@ hasOneSide Single = true
 hasOneSide Pair = false
 hasOneSide Shared = false
 
--- "23 | main/standby item .. on a single radio"; of a shared one: "23 also for an item of 1 here", "An item of 0 is accepted"
+-- "23 | main/standby item .. on a single radio"; of a shared one: "23 also for an item of 1 here", "An item of 0 is accepted". (From a lesson
+-- seat any, on every kind: Hearing, sideBarred.)
 abbrev pub itemBarred : Kind → SideItem → Bool
 itemBarred Single Absent = false
 itemBarred Single Main = true
