@@ -32,11 +32,12 @@ module _ {A : Type 0} (a : A) where
   exact-judged cs =
       record { refuses = refuses cs; only-then = only-then cs; accepts = λ h. (a, accepts a cs h); meets-none = λ b e. meets-none cs a b e .0 }
 
--- So a case of the number that is answered holds.
+-- whether a case of that number holds
 unfoldable pub holdsFor : ℕ → List Case → Bool
 holdsFor n [] = false
 holdsFor n (c ∷ cs) = (eqb (c .number) n && c .holds) || holdsFor n cs
 
+-- of the number that is answered one does
 pub first-holds : (n : ℕ) (cs : List Case) → FirstCase n cs → holdsFor n cs ≡ true
 unfolding holdsFor
 first-holds n [] none = absurd none
