@@ -28,6 +28,7 @@ USAGE = {
     " or write rx SEQ TS SSRC PTT SQU ID PM PTTS SCT SQI MSS AUDIO ROOM",
     "quality": "quality LEVEL",
     "air": "air",
+    "totals": "totals SEAT",
     "help": "help",
 }
 UNKNOWN = "a call; help prints them"
@@ -124,6 +125,7 @@ ARGUMENTS = {
     "write rx": (one_of("rx"), half, whole, whole, byte, bit, byte, bit, bit, bit, absent_or(sqi), absent_or(bit), data, room),
     "quality": (level,),
     "air": (),
+    "totals": (byte,),
     "help": (),
 }
 
@@ -247,6 +249,10 @@ class Console:
 
     def air(self):
         return f"ok on={shown_seats(self.bench.air.on)} ptt={self.bench.air.ptt}"
+
+    def totals(self, seat):
+        answer = self.bench.totals(seat)
+        return answer if isinstance(answer, model.Refused) else f"ok heard={answer.heard} missing={answer.missing}"
 
 
 def answers(lines):

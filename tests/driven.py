@@ -21,6 +21,7 @@ from model import NORMAL, TEST
 from sessions import writers
 from sessions_ddc import ddc_at_length
 from sessions_lines import wrong_words
+from sessions_totals import to_the_bound
 from talk import PAIR, Sessions, sound
 
 ROOT = pathlib.Path(__file__).resolve().parent.parent
@@ -55,6 +56,12 @@ def at_length():
     return "".join(line + "\n" for line in s.lines).encode("latin-1")
 
 
+def totals_to_the_bound():
+    s = Sessions()
+    to_the_bound(s)
+    return "".join(line + "\n" for line in s.lines).encode()
+
+
 def every_room():
     """Eight seats are due, and their reports take 208 bytes; the number of a report behind the tick tells whether they were written."""
     opened = [PAIR, "received 1 -850", *(f"open {seat} txrx 20 50 {seat} 0" for seat in range(1, 9))]
@@ -78,6 +85,7 @@ def edges():
     yield "a long session", long_session()
     yield "words at length", at_length()
     yield "a tick with every room", every_room()
+    yield "totals up to their bound", totals_to_the_bound()
     yield "air behind each line", b"".join(line + b"\nair\n" for line in random_session(5_000, 3).splitlines())
     yield "every level of 16 bits", b"".join(b"quality %d\n" % level for level in range(-32768, 32768))
 
@@ -171,6 +179,9 @@ class Random:
     def air(self):
         return "air"
 
+    def totals(self):
+        return f"totals {self.seat()}"
+
     def transmitter(self):
         return f"transmitter {pick(self.r, 'healthy', 'healthy', 'unhealthy')}"
 
@@ -193,7 +204,7 @@ class Random:
 
     # how often each comes
     KINDS = {"packet": 30, "report": 20, "tick": 10, "open": 20, "close": 1, "received": 4, "transmitter": 3, "side": 3,
-             "read": 4, "write": 4, "quality": 2, "air": 8, "setup": 0.2, "junk": 2}
+             "read": 4, "write": 4, "quality": 2, "air": 8, "totals": 6, "setup": 0.2, "junk": 2}
 
     def line(self):
         kind = self.r.choices(list(self.KINDS), list(self.KINDS.values()))[0]

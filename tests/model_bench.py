@@ -1,16 +1,11 @@
 """Document 01's bench, levels as in 02's third request, the air kept as in its fifth, ticks with their reports as in its sixth, the
-kinds of radio of its tenth: its calls, who is on the air, reports. Part of the model, see model.py."""
+kinds of radio of its tenth, totals as in its fourteenth: its calls, who is on the air, reports. Part of the model, see model.py."""
 
 from model_packet import *
 from model_record import *
 
 
 # ---- The bench and its calls
-
-def distance(last, new):
-    # "new sequence minus last accepted, taken modulo 65536 into -32768 to 32767"
-    return (new - last + 32768) % 65536 - 32768
-
 
 def framed(packet):
     # RFC 4571, 2: an unsigned LENGTH of 16 bits in network byte order, then a packet of so many octets
@@ -79,7 +74,7 @@ class Bench:
     # -- packets
 
     def packet(self, n, data):
-        # "Packet 13, 14, 1 to 12, 19 to 23."
+        # "Packet 13, 14, 1 to 12, 19 to 23."; 02: "33, after 23"
         refused = first_refusal((13, lambda: self.no_such_seat(n)), (14, lambda: self.not_open(n)))
         if refused:
             return refused
@@ -97,6 +92,8 @@ class Bench:
             # 22: "ptt-id not the seat's own; with PTT off 0 also passes"
             (22, lambda: new.id != seat.own_id and not (new.ptt == OFF and new.id == 0)),
             (23, lambda: self.item_forbidden(n, new.side)),
+            # 33: "if heard plus missing would pass 4,000,000,000"
+            (33, lambda: seat.account_with(message.sequence) > 4_000_000_000),
         )
         if refused:
             return refused
@@ -119,6 +116,7 @@ class Bench:
             self.keyings += 1
             seat.keying_began = self.keyings
 
+        seat.packets, seat.account = seat.packets + 1, seat.account_with(message.sequence)
         seat.heard, seat.ssrc, seat.sequence, seat.last = True, message.ssrc, message.sequence, new
         # "Opening and each accepted packet set a seat's time left to period times multiplier ms."
         seat.left = seat.period * seat.multiplier
@@ -127,6 +125,11 @@ class Bench:
         # "An accepted audio packet's payload is sent, to the side in use, exactly if its seat is on the air after it."
         audio = message.audio if n in self.air.on else b""
         return PacketAnswer(missing, reply, self.side_in_use, audio)
+
+    def totals(self, n):
+        # 02: "totals per seat: heard and missing since opening"
+        refused = first_refusal((13, lambda: self.no_such_seat(n)), (14, lambda: self.not_open(n)))
+        return refused or TotalsAnswer(self.seats[n].packets, self.seats[n].account - self.seats[n].packets)
 
     def keying_forbidden(self, seat, field):
         # 21: "PTT on for Idle or Rxonly; Coupling PTT for TxRx; lesson seat with PTT on other than Test"

@@ -1,5 +1,5 @@
-"""The record of document 01's bench, with the air of 02's fifth request and the kinds of radio of its tenth, and what calls answer.
-Part of the model, see model.py."""
+"""The record of document 01's bench, with the air of 02's fifth request, the kinds of radio of its tenth and the totals of its fourteenth,
+and what calls answer. Part of the model, see model.py."""
 
 from dataclasses import dataclass
 
@@ -22,6 +22,11 @@ class Setup:
     coupling: str = "interruption"
 
 
+def distance(last, new):
+    # "new sequence minus last accepted, taken modulo 65536 into -32768 to 32767"
+    return (new - last + 32768) % 65536 - 32768
+
+
 @dataclass
 class Seat:
     """An open seat."""
@@ -40,6 +45,12 @@ class Seat:
     sequence: int = None
     last: Field = Field()
     keying_began: int = None
+    packets: int = 0  # accepted since opening
+    account: int = 0  # heard plus missing
+
+    def account_with(self, sequence):
+        # 02: "0 if nothing was accepted, else 1 plus the sum of the distances of all accepted packets after the first"
+        return self.account + distance(self.sequence, sequence) if self.heard else 1
 
     @property
     def own_id(self):
@@ -53,6 +64,13 @@ class PacketAnswer:
     reply: bool
     side: int
     audio: bytes
+
+
+@dataclass(frozen=True)
+class TotalsAnswer:
+    # 02: "heard and missing since opening"
+    heard: int
+    missing: int
 
 
 @dataclass(frozen=True)

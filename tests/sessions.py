@@ -25,6 +25,7 @@ from sessions_printed import printed_examples, traps
 from sessions_refusals import refusals
 from sessions_sending import sending
 from sessions_ticks import merged_ticks
+from sessions_totals import totals
 from talk import Sessions
 
 ROOT = pathlib.Path(__file__).resolve().parent.parent
@@ -57,7 +58,7 @@ def main():
     folder = pathlib.Path(given[0]) if given else CRATE
     folder.mkdir(parents=True, exist_ok=True)
     s = Sessions()
-    for part in (printed_examples, traps, refusals, time, air, packets, ddc_items, levels, merged_ticks, kept_air, sending, kinds, lines):
+    for part in (printed_examples, traps, refusals, time, air, packets, ddc_items, levels, merged_ticks, kept_air, sending, kinds, totals, lines):
         part(s)
     s.save(folder)
     print(f"{s.sessions} sessions, {len(s.lines)} lines, {len(s.answers)} answers; written to {folder}")

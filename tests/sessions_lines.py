@@ -45,6 +45,7 @@ def wrong_calls(s):
     expects(s, "write", "tx 1 0 7 1 2 2 0 - - - 20", "tx 1 0 7 256 2 0 0 - - - 20", "rx 1 0 7 0 1 0 0 0 0 7 - - 20", "rx 1 0 7 1 2 0 0 - - - 20")
     expects(s, "quality", "", "32768", "-32769", "-85.0", "0 -850")
     expects(s, "air", "1", "-")
+    expects(s, "totals", "", "256", "-", "1 1")
     expects(s, "help", "me")
 
 
@@ -54,7 +55,7 @@ def wrong_words(s):
     s.say(f"read tx {'00' * 1020}", "refused 2 cause 0")
     s.say(f"packet 9 {R2S}20800000{'00' * 999}", "refused 13 cause 0")
     for line in ("clos 1", "closed 1", "Close 1", "CLOSE 1", "\x00", "-", "1", "tx", "\xFF", "close\x001", "Quality 0", "qualit 0", "qualities 0", "quality-850",
-                 "Air", "AIR", "ai", "airs", "air1", "air\x00", "on"):
+                 "Air", "AIR", "ai", "airs", "air1", "air\x00", "on", "total 1", "Totals 1", "totals1"):
         s.say(line, "error: expected a call")
     expects(s, "setup", "", "78 0167 pair lockout", "78 0167 pair lockout interruption more", "9 0167 pair lockout interruption")
     expects(s, "setup", *(f"{seats} 0167 pair lockout interruption" for seats in ("0", "77", "7-", "--", "7,8", "787", "a")))
@@ -77,6 +78,7 @@ def wrong_words(s):
     expects(s, "quality", "", "32768", "-32769", "-", "--1", "+1", "1-", "1 1", "1 -850", "- 850", "-85.0", "-850,", "0x10", "1e3", "a")
     expects(s, "quality", "-850 tenths", "-850 -", "-99999999999999999999", "99999999999999999999", "65536", "-65536", "4294967296", "18446744073709551616")
     expects(s, "air", "0", "1", "9", "-", "12", "on", "air", "\x00")
+    expects(s, "totals", "", "256", "-1", "-", "a", "1 1", "4294967297", "18446744073709551617")
     expects(s, "help", "me")
     tx, rx = "1 0 7 1 2 0 0 - - - 20", "1 0 7 0 1 0 0 0 0 - - - 20"
     expects(s, "write", "", "tx", "rx", f"xx {tx}", f"tx {rx}", f"rx {tx}", f"tx {tx} 1", f"tx {tx}00", f"rx {rx}00")
@@ -129,7 +131,7 @@ def lengths(s):
     s.session("a line of 2,048 bytes is read whole, a longer one is not, whatever it holds")
     s.say("tick 0 0 208".ljust(2048), "ok")
     s.say("# tick 0 0 208".ljust(2049), "error: expected a line of at most 2048 bytes")
-    s.say("help", "write rx SEQ TS SSRC PTT SQU ID PM PTTS SCT SQI MSS AUDIO ROOM\nquality LEVEL\nair\nhelp")
+    s.say("help", "write rx SEQ TS SSRC PTT SQU ID PM PTTS SCT SQI MSS AUDIO ROOM\nquality LEVEL\nair\ntotals SEAT\nhelp")
     s.say("tick 0 0 208 # the last line has no end", "ok")
 
 

@@ -3,14 +3,15 @@
 no `error:` line; the same session twice gives the same answers; a refused call changes nothing (the session without
 its refused calls answers the same); a type 4 item is stepped over (the session without them answers the same); a report
 tells a quality exactly while a signal is received, and the one that `quality` answers for its level; the air is kept (with
-`air` behind each line every other answer is the same, a refused call and a report leave what it answers, a report tells its
-top type and one of its seats, audio is sent from its seats alone, and nobody closed is one of them); items move the side of
-a pair alone, events that of every radio but a single one, and reports tell it by the kind; a tick is refused by its
-ms and its room alone, and sends the reports of its due seats (each report, asked for or sent, has its seat's next sequence
-number, and one asked for behind the tick tells the same); ticks add up (the session with two ticks for each answers the
-same, but for a seat due in the first and closed in the second, and for sequence numbers, one further for each seat that is due
-in the first and due or closed in the second); and demand 3 (the session without its lesson calls answers live seats the same,
-each report by itself, but for what the demand allows).
+`air` behind each line every other answer is the same, a refused call, a report and totals leave what it answers, a report tells
+its top type and one of its seats, audio is sent from its seats alone, and nobody closed is one of them); items move the side of
+a pair alone, events that of every radio but a single one, and reports tell it by the kind; totals are those of the packets
+accepted since opening (with `totals` behind each line every other answer is the same), and no seat stays open for its period
+without being due; a tick is refused by its ms and its room alone, and sends the reports of its due seats (each report, asked
+for or sent, has its seat's next sequence number, and one asked for behind the tick tells the same); ticks add up (the session
+with two ticks for each answers the same, but for a seat due in the first and closed in the second, and for sequence numbers,
+one further for each seat that is due in the first and due or closed in the second); and demand 3 (the session without its
+lesson calls answers live seats the same, each report by itself, but for what the demand allows).
 
   tests/soak.py [LINES] [SEED]     LINES a session, 20,000 if not given; without SEED a session for each kind of radio and choice of modes
 
@@ -24,6 +25,7 @@ from soak_lines import LESSONS, MODES, TEST, names_a_lesson, session
 from soak_sides import hold_sides
 from soak_ticks import hold_reports, hold_singles, hold_ticks
 from soak_told import answers, blotted, fail, live_seats, ptt_type, reports_in, seat_sets, seats_and_type
+from soak_totals import hold_totals
 
 AUDIO = 8
 
@@ -90,8 +92,8 @@ def hold_air(lines, first):
         if answer != first[i]:
             fail("`air`, asked before it, changed the answer", lines, i)
         accepted = answer.startswith("ok")
-        if shown != before and (not accepted or lines[i].startswith("report ")):
-            fail(f"a refused call or a report changed what `air` answers, {before} to {shown}", lines, i)
+        if shown != before and (not accepted or lines[i].startswith(("report ", "totals "))):
+            fail(f"a refused call, a report or totals changed what `air` answers, {before} to {shown}", lines, i)
         if accepted and not fits_air(lines[i], answer, *seats_and_type(shown)):
             fail(f"`air` behind it answers what doesn't fit it, {shown},", lines, i)
         changes += shown != before
@@ -152,6 +154,7 @@ def soak(count, seed):
     told = hold_qualities(lines, first)
     changes = hold_air(lines, first)
     sides = hold_sides(lines, first)
+    missing = hold_totals(lines, first)
     sent = hold_reports(lines, first)
     hold_singles(lines, first)
     ticks, merged, ran = hold_ticks(lines, first, seed)
@@ -162,7 +165,7 @@ def soak(count, seed):
             fail("a lesson call before it changed what a live seat is told", lines, i)
     differing = sum(first[i] != answer for i, answer in zip(live, alone))
     refused = len(first) - len(kept)
-    print(f"seed {seed}: {len(lines)} calls, {refused} refused; {len(without)} type 4 items left out; {told} reports with a quality; {changes} calls changed the air, {sides} the side; "
+    print(f"seed {seed}: {len(lines)} calls, {refused} refused; {len(without)} type 4 items left out; {told} reports with a quality; {changes} calls changed the air, {sides} the side; {missing} packets missing; "
           f"{sent} reports sent by ticks; {ticks} ticks made two, {merged} with a seat due in the first and closed in the second, {ran} sequence numbers one further; "
           f"{len(lines) - len(live)} lesson calls left out, {differing} live answers differed as demand 3 allows")
 

@@ -8,8 +8,8 @@ from handmade import built, some_ddc, words_of
 LESSONS = "78"
 MODES = list(itertools.product(("single", "pair", "shared"), ("lockout", "summation"), ("interruption", "summation")))
 # how often each call comes
-KINDS = {"packet": 40, "report": 26, "tick": 5, "open": 6, "close": 1, "received": 4, "transmitter": 2, "side": 2, "quality": 1, "air": 4}
-NAMES_A_SEAT = ("open", "close", "packet", "report")
+KINDS = {"packet": 40, "report": 26, "tick": 5, "open": 6, "close": 1, "received": 4, "transmitter": 2, "side": 2, "quality": 1, "air": 4, "totals": 4}
+NAMES_A_SEAT = ("open", "close", "packet", "report", "totals")
 TEST = 5
 
 
@@ -57,7 +57,7 @@ def session(count, seed):
             lines.append("air")
         else:
             level = r.choice([-32768, 32767] + 14 * [r.randrange(-1200, -500)])
-            words = {"close": seat, "received": f"{r.choice([0, 1, 2, 255])} {level}", "quality": level,
+            words = {"close": seat, "totals": seat, "received": f"{r.choice([0, 1, 2, 255])} {level}", "quality": level,
                      "transmitter": r.choice(["healthy", "healthy", "healthy", "unhealthy"]), "side": r.choice(["main", "standby"])}
             lines.append(f"{kind} {words[kind]}")
     return lines, without

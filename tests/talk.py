@@ -20,8 +20,8 @@ def sound(seat, length):
 
 
 def shows(answer, expected):
-    """A part of the answer; of refusals, ticks, openings, qualities and the air its first words, whole."""
-    if expected.startswith(("refused", "ok closed", "ok id", "ok quality", "ok on")):
+    """A part of the answer; of refusals, ticks, openings, qualities, the air and totals its first words, whole."""
+    if expected.startswith(("refused", "ok closed", "ok id", "ok quality", "ok on", "ok heard")):
         return (answer + " ").startswith(expected + " ")
     return expected in answer
 
@@ -118,6 +118,10 @@ class Sessions:
     def air(self, on, ptt):
         """Asks who is on the air, the seats in digits or `-`, and with which top type."""
         self.say("air", f"ok on={on} ptt={ptt}")
+
+    def totals(self, seat, heard, missing):
+        """Asks how many packets of a seat were heard and missing since it was opened."""
+        self.say(f"totals {seat}", f"ok heard={heard} missing={missing}")
 
     def save(self, folder):
         """The last line has no end."""

@@ -9,10 +9,11 @@ use Rattle.seats.specs.Opening.{openSaid, openedBench, closeSaid, closedBench}
 use Rattle.seats.specs.Ticking.{silentSeats, dueSeats, tickedBench}
 use Rattle.seats.specs.Radio.{sideSaid}
 use Rattle.air.specs.Air.{keyings, benchAir, aired}
+use Rattle.hearing.specs.Account.{totalsSaid}
 use Rattle.hearing.specs.Hearing.{packetSaid, heardBench, isSent, hearing, messageIn}
 use Rattle.reporting.specs.Reporting.{reportSaid, reportBytes, reportedBench}
 use Rattle.sending.specs.Sending.{records, sentBytes, sentBench, tickSaid}
-use Rattle.bench.specs.Step.{Call, opening, closing, packet, tick, report, received, transmitter, side, Said, done, own, told, ticked, written, Outcome, outcome, does, step, keeping, after}
+use Rattle.bench.specs.Step.{Call, opening, closing, packet, tick, report, received, transmitter, side, totals, Said, done, own, told, counts, ticked, written, Outcome, outcome, does, step, keeping, after}
 use Rattle.record.specs.declared.shown.Air.{Air}
 use Rattle.record.specs.declared.whole.Bench.{Bench}
 
@@ -39,6 +40,7 @@ refused-keeps b (report n timestamp sound room) k cause e = simp (was-refused (r
 refused-keeps b (received signals level) k cause e = absurd (never done k cause e)
 refused-keeps b (transmitter healthy) k cause e = absurd (never done k cause e)
 refused-keeps b (side standby) k cause e = simp (was-refused (sideSaid b) (λ u. done) k cause e)
+refused-keeps b (totals n) k cause e = simp (was-refused (totalsSaid b n) counts k cause e)
 
 -- ---- the same answers
 
@@ -71,6 +73,7 @@ module _ (shown kept f : Bench → Bench) (b : Bench) (air : Air) (sees : shown 
   but-for-air (received signals level) = ap (λ (x : Bench). record { answer = accepted done; bench = x }) (keeps _)
   but-for-air (transmitter healthy) = ap (λ (x : Bench). record { answer = accepted done; bench = x }) (keeps _)
   but-for-air (side standby) = unfold sideSaid in settles (sideSaid b) (λ u. done) (withSide b standby) (keeps _)
+  but-for-air (totals n) = unfold totalsSaid in settles (totalsSaid b n) counts b stands
 
 -- So 01 neither reads nor moves what the record keeps of the air;
 pub unread : (b : Bench) (air : Air) (c : Call) → step (withAir b air) c ≡ changed (λ x. withAir x air) (step b c)

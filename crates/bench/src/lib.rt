@@ -1,16 +1,19 @@
-// The bench of document 01: every call in one place, from the crates that make them. Seats and events: `seats`; a packet:
-// `hearing`; a report: `reporting`; a tick with its reports: `sending`; who is on the air: `air`, kept in the record: `record`.
+// The bench of document 01: every call in one place, from the crates that make them. Seats and events: `seats`; a packet and
+// totals: `hearing`; a report: `reporting`; a tick with its reports: `sending`; who is on the air: `air`, kept in the record: `record`.
 // specs/Step.antt has every call as one definition; proofs/Keeping.antt, that keeping the air changes no answer.
 pub use air::aired;
 pub use hearing::Hearing;
 pub use hearing::PacketAnswer;
 pub use hearing::Packeted;
+pub use hearing::TotalsAnswer;
 pub use hearing::audio;
 pub use hearing::packet;
+pub use hearing::totals;
 pub use record::Air;
 pub use record::Bench;
 pub use record::Kind;
 pub use record::Setup;
+pub use record::Totals;
 pub use record::kind_code;
 pub use reporting::Reported;
 pub use reporting::report;

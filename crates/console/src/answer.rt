@@ -5,6 +5,7 @@ use crate::say::ok;
 use crate::say::quality_line;
 use crate::say::refused;
 use crate::say::ticked_line;
+use crate::say::totals_line;
 use crate::say::written_line;
 use crate::usage::expected;
 use crate::usage::help;
@@ -63,6 +64,7 @@ pub fn answer(b: Bench, call: Call, s: &[u8], bytes: &[u8], out: &mut [u8]) -> S
         | Call::WriteRx { .. }
         | Call::Quality(_)
         | Call::Air
+        | Call::Totals(_)
         | Call::Help
         | Call::Wrong => told(b, line(b, call, s, bytes, out)),
     }
@@ -78,6 +80,7 @@ fn line(b: Bench, call: Call, s: &[u8], bytes: &[u8], out: &mut [u8]) -> usize {
         Call::WriteRx { message, lent } => write_rx(ext, message, lent, bytes, out),
         Call::Quality(level) => quality_line(out, quality(level)),
         Call::Air => air_line(out, b.air),
+        Call::Totals(seat) => totals_line(out, bench::totals(b, seat)),
         Call::Help => help(out),
         Call::Wrong => expected(out, s),
         Call::Nothing

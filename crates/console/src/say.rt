@@ -4,6 +4,7 @@ use base::part;
 use bench::Air;
 use bench::Hearing;
 use bench::SeatSets;
+use bench::TotalsAnswer;
 use grammar::ROOM;
 use packet::Refusal;
 use show::refusal_line;
@@ -60,6 +61,18 @@ pub fn air_line(out: &mut [u8], air: Air) -> usize {
     let at = put_seats(out, at, on);
     let at = put(out, at, b" ptt=");
     put_number(out, at, air.ptt as u64)
+}
+
+pub fn totals_line(out: &mut [u8], answer: TotalsAnswer) -> usize {
+    match answer {
+        TotalsAnswer::Refused(r) => refused(out, r),
+        TotalsAnswer::Are(totals) => {
+            let at = put(out, 0, b"ok heard=");
+            let at = put_number(out, at, totals.heard as u64);
+            let at = put(out, at, b" missing=");
+            put_number(out, at, totals.missing as u64)
+        }
+    }
 }
 
 // The packet lies at the front of the buffer.

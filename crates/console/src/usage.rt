@@ -4,7 +4,7 @@ use text::put;
 use text::put_byte;
 
 // How many calls there are.
-const CALLS: usize = 14;
+const CALLS: usize = 15;
 
 fn usage(out: &mut [u8], at: usize, call: usize) -> usize {
     match call {
@@ -29,7 +29,8 @@ fn usage(out: &mut [u8], at: usize, call: usize) -> usize {
         10 => put_write(out, at),
         11 => put(out, at, b"quality LEVEL"),
         12 => put(out, at, b"air"),
-        13 => put(out, at, b"help"),
+        13 => put(out, at, b"totals SEAT"),
+        14 => put(out, at, b"help"),
         _ => put(out, at, b"a call; help prints them"),
     }
 }

@@ -1,4 +1,4 @@
--- What the bench keeps through every call, its air among it, what one call does to one seat, that ticks add up, what a tick sends, and a shared radio. In the order in which they build on each other.
+-- What the bench keeps through every call, its air among it, what one call does to one seat, that ticks add up, what a tick sends, a shared radio, and accounts. In the order in which they build on each other.
 pub mod Runs
 pub mod SeatAfter
 pub mod Order
@@ -12,3 +12,6 @@ pub mod AsSingles
 pub mod OneDifference
 pub mod Room
 pub mod SharedRadio
+pub mod Accounts
+pub mod TotalsBound
+pub mod DueAtLeastOnce

@@ -13,7 +13,7 @@ use Rattle.packet.specs.Packet.{pttType, pttId, ptts, test}
 use Rattle.packet.specs.Refusals.{Answer, accepted, mapped}
 use Rattle.record.specs.Record.{seatNumbers, seatOf, lesson, freshBench}
 use Rattle.air.specs.Air.{rank, takesPart}
-use Rattle.bench.specs.Step.{Call, opening, closing, packet, tick, report, received, transmitter, side, Said, done, own, heard, ticked, written, Outcome, Machine, keeping, after}
+use Rattle.bench.specs.Step.{Call, opening, closing, packet, tick, report, received, transmitter, side, totals, Said, done, own, heard, ticked, written, totalled, Outcome, Machine, keeping, after}
 use Rattle.record.specs.declared.setup.Setup.{Setup}
 use Rattle.record.specs.declared.whole.Bench.{Bench}
 
@@ -23,6 +23,7 @@ named (opening n r) = n
 named (closing n) = n
 named (packet n p) = n
 named (report n timestamp sound room) = n
+named (totals n) = n
 named (tick ms timestamp room) = 0
 named (received signals level) = 0
 named (transmitter healthy) = 0
@@ -68,6 +69,7 @@ fixed setup while keysTest (own id) = own id
 fixed setup while keysTest (heard missing reply standby sound) = heard missing reply standby (cond (keysTest && not while) [] sound)
 fixed setup while keysTest (ticked closed due records) = ticked (amongLive setup closed) (amongLive setup due) (recordsSeen setup while records)
 fixed setup while keysTest (written bytes) = written (asSeen while bytes)
+fixed setup while keysTest (totalled packets missing) = totalled packets missing
 
 unfoldable pub compared : Setup → Call → Outcome → Answer Said
 compared setup c o = mapped (fixed setup (liveAboveTest (o .bench) seatNumbers) (eqb (pttOf (o .bench) (named c)) test)) (o .answer)

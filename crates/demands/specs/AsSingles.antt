@@ -9,7 +9,7 @@ use Rattle.packet.specs.Refusals.{NoCase, Answer, accepted, refused}
 use Rattle.framing.specs.Framing.{framed}
 use Rattle.seats.specs.Ticking.{dueSeats}
 use Rattle.sending.specs.Sending.{afterClosings, tickRefusals, tickBuffer}
-use Rattle.bench.specs.Step.{Call, tick, report, Said, done, own, heard, ticked, written, keeping, after}
+use Rattle.bench.specs.Step.{Call, tick, report, Said, done, own, heard, ticked, written, totalled, keeping, after}
 use Rattle.record.specs.declared.whole.Bench.{Bench}
 
 -- a report for each due seat, from seat n on, each with so much room
@@ -25,6 +25,7 @@ frameOf (accepted (own id)) = []
 frameOf (accepted (heard missing reply standby sound)) = []
 frameOf (accepted (ticked closed due records)) = []
 frameOf (accepted (written bytes)) = framed bytes
+frameOf (accepted (totalled packets missing)) = []
 frameOf (refused n cause) = []
 
 unfoldable pub framesBy : Bench → List Call → List ℕ

@@ -1,5 +1,5 @@
 -- Demand 1: "Each refusal comes in exactly the case document 01 gives." The readers, the writers and every call under one
--- theorem, in 01's orders; and each of the 27 numbers has its place in them.
+-- theorem, in 01's orders; and each of the 27 numbers, and 02's 33, has its place in them.
 use Prim.Native.Nat.{ℕ, zero, suc, _+_, _-_}
 use mathlib.Core.Path.{_≡_}
 use mathlib.Core.Bool.{Bool, true}
@@ -12,7 +12,7 @@ use Rattle.writer.specs.Writing.{writerRefusals, write, buffered, putRefusals, 
 use Rattle.packet.specs.declared.message.Direction.{Direction}
 use Rattle.packet.specs.declared.message.Message.{Message}
 use Rattle.air.specs.Air.{among}
-use Rattle.bench.specs.Step.{opening, closing, packet, tick, report, received, transmitter, side}
+use Rattle.bench.specs.Step.{opening, closing, packet, tick, report, received, transmitter, side, totals}
 use Rattle.record.specs.declared.whole.Bench.{Bench}
 use Rattle.seats.specs.declared.opening.Request.{Request}
 use Rattle.demands.specs.Exact.{Exact, ReadersExact}
@@ -40,9 +40,9 @@ first to last = counted first (last + 1 - first)
 abbrev pub readersOrder : List ℕ
 readersOrder = 1 to 12
 
--- "Packet 13, 14, 1 to 12, 19 to 23."
+-- "Packet 13, 14, 1 to 12, 19 to 23." 02, request 14: "33, after 23"
 abbrev pub packetOrder : List ℕ
-packetOrder = 13 ∷ 14 ∷ 1 to 12 ++ 19 to 23
+packetOrder = 13 ∷ 14 ∷ 1 to 12 ++ 19 to 23 ++ 33 ∷ []
 
 -- "Open 13, 15 to 18."
 abbrev pub openOrder : List ℕ
@@ -64,6 +64,10 @@ tickOrder = 24 ∷ 26 ∷ []
 abbrev pub sideOrder : List ℕ
 sideOrder = 23 ∷ []
 
+-- Totals of a seat, as closing: 13, 14.
+abbrev pub totalsOrder : List ℕ
+totalsOrder = 13 ∷ 14 ∷ []
+
 -- "Writers 27, 26."
 abbrev pub writersOrder : List ℕ
 writersOrder = 27 ∷ 26 ∷ []
@@ -84,6 +88,7 @@ pub record Orders : Type 0 where
   pub of-report : (b : Bench) (n timestamp : ℕ) (sound : List ℕ) (room : ℕ) → numbers (refusalsOf b (report n timestamp sound room)) ≡ reportOrder
   pub of-tick : (b : Bench) (ms timestamp room : ℕ) → numbers (refusalsOf b (tick ms timestamp room)) ≡ tickOrder
   pub of-side : (b : Bench) (standby : Bool) → numbers (refusalsOf b (side standby)) ≡ sideOrder
+  pub of-totals : (b : Bench) (n : ℕ) → numbers (refusalsOf b (totals n)) ≡ totalsOrder
   pub of-received : (b : Bench) (signals : ℕ) (level : ℤ) → numbers (refusalsOf b (received signals level)) ≡ []
   pub of-transmitter : (b : Bench) (healthy : Bool) → numbers (refusalsOf b (transmitter healthy)) ≡ []
   pub of-writers : (ext : ℕ) (m : Message) (sound : List ℕ) (room : ℕ) → numbers (writerRefusals ext m sound room) ≡ writersOrder
@@ -94,5 +99,5 @@ pub record AllExact : Type 0 where
   pub writers : WritersExact
   pub calls : CallsExact
   pub orders : Orders
-  -- each number of 01's table stands in one of them
-  pub covered : map (among (packetOrder ++ openOrder ++ tickOrder ++ reportOrder ++ writersOrder)) (1 to 27) ≡ replicate 27 true
+  -- each number of 01's table stands in one of them, and each of 02's so far
+  pub covered : map (among (packetOrder ++ openOrder ++ tickOrder ++ reportOrder ++ writersOrder)) (1 to 27 ++ 33 ∷ []) ≡ replicate 28 true

@@ -11,11 +11,11 @@ use Rattle.seats.specs.Radio.{sideRefusals}
 use Rattle.hearing.specs.Hearing.{packetRefusals}
 use Rattle.reporting.specs.Reporting.{reportRefusals, reportBuffer}
 use Rattle.sending.specs.Sending.{tickRefusals, tickBuffer}
-use Rattle.bench.specs.Step.{Call, opening, closing, packet, tick, report, received, transmitter, side, keeping}
+use Rattle.bench.specs.Step.{Call, opening, closing, packet, tick, report, received, transmitter, side, totals, keeping}
 use Rattle.record.specs.declared.whole.Bench.{Bench}
 use Rattle.demands.specs.Exact.{Exact}
 
--- "Packet 13, 14, 1 to 12, 19 to 23. Open 13, 15 to 18. Close 13, 14. Report 13, 14, 25, 26. .. Side event 23; the
+-- "Packet 13, 14, 1 to 12, 19 to 23 [then 02's 33]. Open 13, 15 to 18. Close 13, 14. Report 13, 14, 25, 26. .. Side event 23; the
 -- other events are never refused." And of a tick with its reports 02: "24, then 26".
 abbrev pub refusalsOf : Bench → Call → List Case
 refusalsOf b (opening n r) = openRefusals (b .setup) n (b .seats) r
@@ -26,6 +26,7 @@ refusalsOf b (report n timestamp sound room) = reportRefusals b n timestamp soun
 refusalsOf b (received signals level) = []
 refusalsOf b (transmitter healthy) = []
 refusalsOf b (side standby) = sideRefusals (b .setup)
+refusalsOf b (totals n) = seatRefusals n (seatOf (b .seats) n .opened)
 
 pub record CallsExact : Type 0 where
   pub each-call : (b : Bench) (c : Call) → Exact (refusalsOf b c) (keeping b c .answer)

@@ -1,5 +1,5 @@
 -- What every bench has at the start and keeps through every call, accepted or refused.
-use Prim.Native.Nat.{ℕ, _*_, _≤_, _<_}
+use Prim.Native.Nat.{ℕ, _+_, _*_, _≤_, _<_}
 use mathlib.Core.Path.{_≡_}
 use mathlib.Core.Bool.{Bool, true, false, _||_}
 use mathlib.Core.List.{List, [], _∷_}
@@ -11,8 +11,9 @@ use Rattle.base.specs.Lists.{howMany}
 use Rattle.packet.specs.Packet.{off, coupling, test}
 use Rattle.record.specs.Kind.{kindOf}
 use Rattle.record.specs.Record.{seatNumbers, nothingHeard, closedSeat, freshBench, seatOf, lesson}
+use Rattle.hearing.specs.Account.{mostCounted}
 use Rattle.seats.specs.Opening.{mayKey, isCoupling, shortest, longest, fewest, most, holdsCoupling, ownId}
-use Rattle.bench.specs.Step.{Call, opening, closing, packet, tick, report, received, transmitter, side, keeping, after}
+use Rattle.bench.specs.Step.{Call, opening, closing, packet, tick, report, received, transmitter, side, totals, keeping, after}
 use Rattle.record.specs.declared.kind.Kind.{Kind}
 use Rattle.record.specs.declared.kind.Kind.the-variants.{Single, Shared}
 use Rattle.record.specs.declared.setup.Setup.{Setup}
@@ -60,6 +61,8 @@ pub record SeatKept (setup : Setup) (n : ℕ) (s : Seat) : Type 0 where
   -- "A seat just opened has heard nothing; its last field counts as all zero without items."
   pub nothing-yet : s .heard .any ≡ false → s .heard ≡ nothingHeard
   pub field-kept : FieldKept (lesson setup n) (kindOf (setup .kind)) (s .call) (ownId n (s .call)) (s .heard .field)
+  -- not "heard plus missing would pass 4,000,000,000"
+  pub totals-most : s .totals .heard + s .totals .missing ≤ mostCounted
   pub sequence-fits : s .heard .sequence < 65536
   pub heard-ssrc-fits : s .heard .ssrc < 4294967296
   pub ssrc-fits : s .ssrc < 4294967296
@@ -88,6 +91,7 @@ InRange (report n timestamp sound room) = Unit {0}
 InRange (received signals level) = Unit {0}
 InRange (transmitter healthy) = Unit {0}
 InRange (side standby) = Unit {0}
+InRange (totals n) = Unit {0}
 
 abbrev pub AllInRange : List Call → Type 0
 AllInRange [] = Unit {0}

@@ -21,6 +21,9 @@ pub mod LessonsSeen
 pub mod OneDifference
 pub mod Room
 pub mod SharedRadio
+pub mod Accounts
+pub mod TotalsBound
+pub mod DueAtLeastOnce
 pub mod Undisturbed
 pub mod WrongBenches
 pub mod Tight

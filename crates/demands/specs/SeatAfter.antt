@@ -11,7 +11,7 @@ use Rattle.record.specs.Record.{closedSeat, openedSeat, seatOf}
 use Rattle.seats.specs.Opening.{callCode}
 use Rattle.seats.specs.Ticking.{tickedSeat}
 use Rattle.hearing.specs.Hearing.{heardSeat, messageIn}
-use Rattle.bench.specs.Step.{Call, opening, closing, packet, tick, report, received, transmitter, side, keeping, after, acceptedCalls}
+use Rattle.bench.specs.Step.{Call, opening, closing, packet, tick, report, received, transmitter, side, totals, keeping, after, acceptedCalls}
 use Rattle.record.specs.declared.seat.Seat.{Seat}
 use Rattle.record.specs.declared.whole.Bench.{Bench}
 use Rattle.demands.specs.ExactCalls.{refusalsOf}
@@ -26,6 +26,7 @@ seatAfter (report m timestamp sound room) n s = s
 seatAfter (received signals level) n s = s
 seatAfter (transmitter healthy) n s = s
 seatAfter (side standby) n s = s
+seatAfter (totals m) n s = s
 
 -- What the accepted calls make of seat n, one after the other.
 unfoldable pub seatThrough : List Call → (n : ℕ) → Seat → Seat

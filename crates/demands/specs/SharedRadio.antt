@@ -15,7 +15,7 @@ use Rattle.record.specs.Record.{freshBench, seatOf, lesson, withSide}
 use Rattle.air.specs.Air.{aired}
 use Rattle.hearing.specs.Hearing.{hasSide, isStandby, messageIn}
 use Rattle.reporting.specs.Reporting.{reportOf}
-use Rattle.bench.specs.Step.{Call, opening, closing, packet, tick, report, received, transmitter, side, Said, done, heard, written, keeping, after}
+use Rattle.bench.specs.Step.{Call, opening, closing, packet, tick, report, received, transmitter, side, totals, Said, done, heard, written, keeping, after}
 use Rattle.record.specs.declared.kind.Kind.{Kind}
 use Rattle.record.specs.declared.kind.Kind.the-variants.{Shared}
 use Rattle.record.specs.declared.setup.Setup.{Setup}
@@ -36,6 +36,7 @@ sideBy inUse (report n timestamp sound room) = inUse
 sideBy inUse (received signals level) = inUse
 sideBy inUse (transmitter healthy) = inUse
 sideBy inUse (side standby) = standby
+sideBy inUse (totals n) = inUse
 
 -- and after a run: that of the last event.
 unfoldable pub lastSide : (inUse : Bool) → List Call → Bool

@@ -16,8 +16,8 @@ use Rattle.seats.specs.Answers.{openAnswer, doneAnswer}
 use Rattle.hearing.specs.Hearing.{audioIn}
 use Rattle.reporting.specs.Reporting.{reportBuffer}
 use Rattle.sending.specs.Sending.{tickSets, tickBuffer}
-use Rattle.hearing.specs.Answers.{packetAnswer}
-use Rattle.bench.specs.Step.{opening, closing, packet, tick, report, received, transmitter, side, Said, done, own, heard, ticked, written, Outcome, keeping}
+use Rattle.hearing.specs.Answers.{packetAnswer, totalsAnswer}
+use Rattle.bench.specs.Step.{opening, closing, packet, tick, report, received, transmitter, side, totals, Said, done, own, heard, ticked, written, counts, Outcome, keeping}
 use Rattle.record.specs.declared.whole.Bench.{Bench}
 use Rattle.sending.specs.declared.sending.SeatSets.{SeatSets}
 use Rattle.hearing.specs.declared.hearing.Hearing.{Hearing}
@@ -94,3 +94,5 @@ pub record StepOfCode : Type 1 where
   pub transmits : Gives seats.transmitter.Reads.Learnt (λ k (b, (healthy, end)) r e. did (accepted done) r ≡ keeping b (transmitter healthy))
   pub sides : Gives seats.side.Reads.Learnt
       (λ k (b, (standby, end)) r e. did (mapped wasDone (doneAnswer (r .answer))) (r .bench) ≡ keeping b (side standby))
+  -- the bench is not given back: it is as it was
+  pub counts-up : Gives hearing.totals.Reads.Learnt (λ k (b, (n, end)) r e. did (mapped counts (totalsAnswer r)) b ≡ keeping b (totals n))

@@ -113,6 +113,7 @@ pub record TightAir : Type 1 where
 pub record TightHearing : Type 1 where
   pub packet : OneResult hearing.packet.Reads.Learnt
   pub audio : OnePart hearing.audio.Reads.Learnt
+  pub totals : OneResult hearing.totals.Reads.Learnt
 
 pub record TightFraming : Type 1 where
   pub put-length : OneResultAndBuffer framing.put_length.Reads.Learnt (λ k e. e .1 .0)
@@ -159,7 +160,7 @@ pub record TightGrammar : Type 1 where
   pub named : OneResult grammar.named.Reads.Learnt
   pub parsed : OneResultAndBuffer grammar.parsed.Reads.Learnt (λ k e. e .1 .0)
 
--- All 82.
+-- All 89.
 pub record Tight : Type 1 where
   pub base : TightBase
   pub packet : TightPacket

@@ -9,7 +9,7 @@ use lib.ListN.{getD}
 use Rattle.packet.specs.Refusals.{Answer, accepted, refused}
 use Rattle.record.specs.Record.{seatNumbers, noSuchSeat, lesson, freshBench}
 use Rattle.air.specs.Air.{benchAir}
-use Rattle.bench.specs.Step.{Call, packet, tick, report, Said, done, own, heard, ticked, written, keeping, after}
+use Rattle.bench.specs.Step.{Call, packet, tick, report, Said, done, own, heard, ticked, written, totalled, keeping, after}
 use Rattle.record.specs.declared.setup.Setup.{Setup}
 use Rattle.record.specs.declared.whole.Bench.{Bench}
 use Rattle.demands.specs.Apart.{withoutLessons, liveAboveTest}
@@ -20,6 +20,7 @@ audioSent (accepted (own id)) = []
 audioSent (accepted (heard missing reply standby sound)) = sound
 audioSent (accepted (ticked closed due records)) = []
 audioSent (accepted (written bytes)) = []
+audioSent (accepted (totalled packets missing)) = []
 audioSent (refused n cause) = []
 
 -- the record of seat n in the answer to a tick
@@ -29,6 +30,7 @@ recordTo n (accepted (own id)) = []
 recordTo n (accepted (heard missing reply standby sound)) = []
 recordTo n (accepted (ticked closed due records)) = cond (noSuchSeat n) [] (getD records (n - 1) [])
 recordTo n (accepted (written bytes)) = []
+recordTo n (accepted (totalled packets missing)) = []
 recordTo n (refused k cause) = []
 
 -- b after the run, e after the same run without its lesson calls

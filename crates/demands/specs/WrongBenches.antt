@@ -9,7 +9,7 @@ use mathlib.Core.List.{List, [], _∷_, map}
 use Rattle.packet.specs.Packet.{off, normal}
 use Rattle.packet.specs.Refusals.{Answer, accepted, refused, mapped}
 use Rattle.record.specs.Record.{seatOf, freshBench}
-use Rattle.bench.specs.Step.{Call, opening, closing, packet, tick, report, received, transmitter, side, Said, done, own, heard, ticked, written, Outcome, Machine, keeping, after}
+use Rattle.bench.specs.Step.{Call, opening, closing, packet, tick, report, received, transmitter, side, totals, Said, done, own, heard, ticked, written, totalled, Outcome, Machine, keeping, after}
 use Rattle.record.specs.declared.setup.Setup.{Setup}
 use Rattle.record.specs.declared.whole.Bench.{Bench}
 use Rattle.demands.specs.Apart.{withoutLessons, pttOf, Apart}
@@ -43,6 +43,7 @@ withBytes other (own id) = own id
 withBytes other (heard missing reply standby sound) = heard missing reply standby sound
 withBytes other (ticked closed due records) = ticked closed due (map (λ d. cond d other []) due)
 withBytes other (written bytes) = written other
+withBytes other (totalled packets missing) = totalled packets missing
 
 abbrev pub withCount : ℕ → Said → Said
 withCount count done = done
@@ -50,6 +51,7 @@ withCount count (own id) = own id
 withCount count (heard missing reply standby sound) = heard count reply standby sound
 withCount count (ticked closed due records) = ticked closed due records
 withCount count (written bytes) = written bytes
+withCount count (totalled packets missing) = totalled packets missing
 
 -- keeping, but for what it says
 abbrev pub retold : (Said → Said) → Machine
@@ -65,6 +67,7 @@ isLater b (report n timestamp sound room) = false
 isLater b (received signals level) = false
 isLater b (transmitter healthy) = false
 isLater b (side standby) = false
+isLater b (totals n) = false
 
 -- nothing missing, no reply, no audio, and nothing changes
 abbrev pub nod : Bench → Outcome

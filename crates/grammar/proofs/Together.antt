@@ -102,16 +102,16 @@ module _ (s : List ℕ) (room : ℕ) where
   said-at : (n : ℕ) → saidWith s n (bytesSaid (bytesWord s n) room) ≡ getD (lines s room) n (plain Not) .says
   unfolding saidWith bytesWord
   said-at =
-      by-place 14 (λ (n : ℕ). saidWith s n (bytesSaid (bytesWord s n) room) ≡ getD (lines s room) n (plain Not) .says)
+      by-place 15 (λ (n : ℕ). saidWith s n (bytesSaid (bytesWord s n) room) ≡ getD (lines s room) n (plain Not) .says)
       (setup-with s and open-with s and refl and refl and packet-with and report-with and refl and refl and refl
-      and read-with and write-with and refl and refl and refl and (λ n. refl))
+      and read-with and write-with and refl and refl and refl and refl and (λ n. refl))
 
   bytes-at : (n : ℕ) → bytesWord s n ≡ getD (lines s room) n (plain Not) .bytes
   unfolding bytesWord
   bytes-at =
-      by-place 14 (λ (n : ℕ). bytesWord s n ≡ getD (lines s room) n (plain Not) .bytes)
+      by-place 15 (λ (n : ℕ). bytesWord s n ≡ getD (lines s room) n (plain Not) .bytes)
       (refl and refl and refl and refl and refl and refl and refl and refl and refl
-      and refl and write-bytes and refl and refl and refl and (λ n. refl))
+      and refl and write-bytes and refl and refl and refl and refl and (λ n. refl))
 
 -- A number that is none of the first k is behind them.
 abbrev NoneOf : (k n : ℕ) → Type 0
@@ -122,9 +122,9 @@ past-all : (k n : ℕ) → NoneOf k n → k ≤ n
 past-all zero n r = omega arith
 past-all (suc k) n (r, h) = let l : k ≤ n = past-all k n r in omega arith
 
-pub no-call : (s : List ℕ) (n : ℕ) (given : BytesRead) → NoneOf 14 n → Not ≡ saidWith s n given
+pub no-call : (s : List ℕ) (n : ℕ) (given : BytesRead) → NoneOf 15 n → Not ≡ saidWith s n given
 unfolding saidWith
-no-call s n given r = no-line (_ ∷ _ ∷ _ ∷ _ ∷ _ ∷ _ ∷ _ ∷ _ ∷ _ ∷ _ ∷ _ ∷ _ ∷ _ ∷ _ ∷ []) Not refl (past-all 14 n r)
+no-call s n given r = no-line (_ ∷ _ ∷ _ ∷ _ ∷ _ ∷ _ ∷ _ ∷ _ ∷ _ ∷ _ ∷ _ ∷ _ ∷ _ ∷ _ ∷ _ ∷ []) Not refl (past-all 15 n r)
 
 -- The whole line, whose first word and word of bytes the code has found.
 module _ (s buffer : List ℕ) {n : ℕ} {w : List ℕ} (e : n ≡ namedIn s) (f : w ≡ bytesWord s n) where

@@ -157,6 +157,12 @@ alone s said = cond (eqb (length (lastOf s 0)) 0) Not (Is said)
 unfoldable pub airIn : List ℕ → Said Call
 airIn s = alone s call.Air
 
+-- "totals SEAT"
+unfoldable pub totalsIn : List ℕ → Said Call
+totalsIn s = do
+  seat ← byteIn (lastOf s 1)
+  Is (call.Totals seat)
+
 -- "help"
 unfoldable pub helpIn : List ℕ → Said Call
 helpIn s = alone s call.Help
@@ -195,12 +201,13 @@ lines s room =
     ∷ writeIn s room
     ∷ plain (qualityCallIn s)
     ∷ plain (airIn s)
+    ∷ plain (totalsIn s)
     ∷ plain (helpIn s)
     ∷ []
 
 -- Which of them the first word names; a place behind them where it names none.
 unfoldable pub namedIn : List ℕ → ℕ
-namedIn s = choiceOf (wordOf s 0) (text "setup open close tick packet report received transmitter side read write quality air help")
+namedIn s = choiceOf (wordOf s 0) (text "setup open close tick packet report received transmitter side read write quality air totals help")
 
 unfoldable pub lineIn : List ℕ → (room : ℕ) → Line
 lineIn s room = getD (lines s room) (namedIn s) (plain Not)

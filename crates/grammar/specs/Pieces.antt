@@ -7,7 +7,7 @@ use Rattle.base.specs.Text.{text}
 use Rattle.words.specs.Input.{wordOf, lastOf, choiceOf}
 use Rattle.words.specs.declared.pairs.BytesRead.{BytesRead}
 use Rattle.grammar.specs.Said.{Said, Is, Not, _>>=_, byteIn, halfIn, wholeIn, hexIn, countSaid, roomIn, oneOf, kindIn, callTypeIn, seatsIn, flagIn, sideIn, climaxIn, sqiIn}
-use Rattle.grammar.specs.Grammar.{closeIn, tickIn, receivedIn, transmitterIn, sideCallIn, qualityCallIn, airIn, helpIn}
+use Rattle.grammar.specs.Grammar.{closeIn, tickIn, receivedIn, transmitterIn, sideCallIn, qualityCallIn, airIn, totalsIn, helpIn}
 use Rattle.grammar.specs.declared.call.Call.{Call}
 use Rattle.grammar.specs.declared.call.Call.the-variants as call
 use Rattle.grammar.specs.declared.call.Lent.{Lent}
@@ -255,6 +255,7 @@ saidWith s name given =
     ∷ writeWith s given
     ∷ qualityCallIn s
     ∷ airIn s
+    ∷ totalsIn s
     ∷ helpIn s
     ∷ [])
     name

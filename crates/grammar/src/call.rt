@@ -51,6 +51,7 @@ pub enum Call {
     },
     Quality(i16),
     Air,
+    Totals(u8),
     Help,
     // A line that is no call.
     Wrong,

@@ -2,7 +2,7 @@
 // behind it, is empty, and says nothing.
 ghost use mathlib.Core.Path.{_≡_};
 ghost use lib.ListN.{length};
-ghost use Rattle.grammar.specs.Grammar.{namedIn, callIn, bytesIn, orWrong, closeIn, tickIn, receivedIn, transmitterIn, sideCallIn, qualityCallIn, airIn, helpIn};
+ghost use Rattle.grammar.specs.Grammar.{namedIn, callIn, bytesIn, orWrong, closeIn, tickIn, receivedIn, transmitterIn, sideCallIn, qualityCallIn, airIn, totalsIn, helpIn};
 ghost use Rattle.grammar.specs.Pieces.{bytesWord, writeBytes, saidWith, setupWith, openWith, packetWith, reportWith, readWith, writeTxWith, writeRxWith, writeWith};
 use crate::call::Call;
 use crate::messages::RxSaid;
@@ -40,7 +40,7 @@ pub fn named(s: &[u8]) -> usize
 {
     choice(
         word(s, 0),
-        b"setup open close tick packet report received transmitter side read write quality air help",
+        b"setup open close tick packet report received transmitter side read write quality air totals help",
     )
 }
 
@@ -98,7 +98,8 @@ fn said(s: &[u8], name: usize, given: BytesRead) -> Call
         10 => write(s, given),
         11 => quality(s),
         12 => air(s),
-        13 => help(s),
+        13 => totals(s),
+        14 => help(s),
         _ => Call::Wrong,
     }
 }
@@ -276,6 +277,15 @@ fn air(s: &[u8]) -> Call
         Call::Wrong
     } else {
         Call::Air
+    }
+}
+
+fn totals(s: &[u8]) -> Call
+    ensures { λ r. ⌜ r ≡ orWrong (totalsIn (now (s .entry))) ⌝ }
+{
+    match byte(last(s, 1)) {
+        ByteRead::Is(seat) => Call::Totals(seat),
+        ByteRead::Not => Call::Wrong,
     }
 }
 

@@ -14,6 +14,7 @@ use Rattle.reader.proofs.Passed.{Passed, passed, field-passed}
 use Rattle.record.specs.Kind.{kindOf}
 use Rattle.record.specs.Record.{noSuchSeat, lesson}
 use Rattle.seats.specs.Opening.{ownId, seatRefusals}
+use Rattle.hearing.specs.Account.{totalsAfter, totalTooLarge}
 use Rattle.hearing.specs.Hearing.{keyingBarred, idAllowed, sideBarred, messageIn, messageRefusals, packetRefusals}
 use Rattle.record.specs.declared.setup.Setup.{Setup}
 use Rattle.record.specs.declared.seat.Seat.{Seat}
@@ -27,6 +28,7 @@ pub record PacketAccepted (setup : Setup) (n : ℕ) (s : Seat) (p : List ℕ) : 
   pub may-key : keyingBarred (lesson setup n) (s .call) (messageIn p) ≡ false
   pub id-allowed : idAllowed (ownId n (s .call)) (messageIn p) ≡ true
   pub may-ask-side : sideBarred (lesson setup n) (kindOf (setup .kind)) (messageIn p) ≡ false
+  pub total-fits : totalTooLarge (totalsAfter s (messageIn p)) ≡ false
 
 pub packet-accepted : (setup : Setup) (n : ℕ) (s : Seat) (p : List ℕ) → NoCase (packetRefusals setup n s p) → PacketAccepted setup n s p
 unfolding packetRefusals messageRefusals seatRefusals
@@ -42,6 +44,7 @@ packet-accepted setup n s p none =
       may-key = rest .1 .1 .1 .0;
       id-allowed = not-false _ (rest .1 .1 .1 .1 .0);
       may-ask-side = rest .1 .1 .1 .1 .1 .0;
+      total-fits = rest .1 .1 .1 .1 .1 .1 .0;
     }
 
 -- "6 and 7 are reserved and refused"

@@ -1,3 +1,4 @@
+pub mod AccountLaws
 pub mod Accepted
 pub mod Sides
 pub mod PacketSteps

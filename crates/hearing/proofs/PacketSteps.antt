@@ -23,6 +23,7 @@ use Rattle.reader.proofs.Passed.{Passed, length-most}
 use Rattle.record.specs.Record.{noSuchSeat, placeOf, closedSeat, seatOf}
 use Rattle.seats.specs.Opening.{seatRefusals, seatVerdict}
 use Rattle.air.specs.Air.{aired}
+use Rattle.hearing.specs.Account.{totalsAfter, totalTooLarge}
 use Rattle.hearing.specs.Hearing.{fieldHeard, messageIn, messageRefusals, packetRefusals, packetSaid, heardBench, sameField, isSent, hearing, audioIn, audioAt}
 use Rattle.hearing.specs.Pieces.{Whole, messageVerdict, letIn, admitted}
 use Rattle.record.specs.declared.setup.Setup.{Setup}
@@ -129,6 +130,9 @@ module _ (b : Bench) (n : ℕ) (p : List ℕ) (s : Seat) (i : ℕ) (at-place : i
 
     pub seen : s ≡ seatOf (b .seats) n
     seen = here (taken .is-seat)
+
+    pub total-passed : totalTooLarge (totalsAfter s m) ≡ false
+    total-passed = rw (seen, sym says) (taken .total-fits)
 
     pub is-whole : Whole p
     is-whole = whole (b .setup .ext) p (taken .was-read)

@@ -5,7 +5,7 @@ use mathlib.Core.List.{List, [], _∷_, _++_}
 use lib.Dec.{eqb, leb}
 use lib.ListN.{length, getD}
 use Rattle.base.specs.Bytes.{partOf}
-use Rattle.base.specs.Order.{otherSsrc, late, missing}
+use Rattle.base.specs.Order.{otherSsrc, late}
 use Rattle.packet.specs.Packet.{payload, payloadAt, off, coupling, test}
 use Rattle.packet.specs.Refusals.{Case, _if_, Answer, accepted, refused, judged}
 use Rattle.reader.specs.Reading.{readerRefusals, messageOf, asTx}
@@ -26,6 +26,7 @@ use Rattle.record.specs.declared.seat.Field.{Field}
 use Rattle.record.specs.declared.seat.Heard.{Heard}
 use Rattle.record.specs.declared.seat.Seat.{Seat}
 use Rattle.record.specs.declared.whole.Bench.{Bench}
+use Rattle.hearing.specs.Account.{missingBefore, totalsAfter, totalTooLarge}
 use Rattle.hearing.specs.declared.hearing.Hearing.{Hearing}
 
 -- What a seat keeps of a message: its field with its items.
@@ -83,7 +84,7 @@ sideBarred isLesson kind m = itemBarred kind (m .side) || (isLesson && hasSide (
 abbrev pub messageIn : List ℕ → Tx
 messageIn p = asTx (messageOf p)
 
--- 19 to 23, of a message that was read.
+-- 19 to 23, of a message that was read, and 02's 33, "after 23, if heard plus missing would pass 4,000,000,000".
 unfoldable pub messageRefusals : Setup → (n : ℕ) → Seat → Tx → List Case
 messageRefusals setup n s m =
     19 if otherSsrc (s .heard .any) (s .heard .ssrc) (m .ssrc)
@@ -91,9 +92,10 @@ messageRefusals setup n s m =
     ∷ 21 if keyingBarred (lesson setup n) (s .call) m
     ∷ 22 if not (idAllowed (ownId n (s .call)) m)
     ∷ 23 if sideBarred (lesson setup n) (kindOf (setup .kind)) m
+    ∷ 33 if totalTooLarge (totalsAfter s m)
     ∷ []
 
--- "Packet 13, 14, 1 to 12, 19 to 23."
+-- "Packet 13, 14, 1 to 12, 19 to 23", then 33.
 unfoldable pub packetRefusals : Setup → (n : ℕ) → Seat → List ℕ → List Case
 packetRefusals setup n s p =
     seatRefusals n (s .opened) ++ readerRefusals direction.Tx (setup .ext) p ++ messageRefusals setup n s (messageIn p)
@@ -110,6 +112,7 @@ heardSeat s m =
       phase = s .phase;
       ssrc = s .ssrc;
       heard = heardOf m;
+      totals = totalsAfter s m;
     }
 
 -- "A main/standby item takes effect, setting the side in use, only where that seat's previous accepted packet carried the
@@ -151,7 +154,7 @@ hearing b n p =
     let m = messageIn p in
     let before = seatOf (b .seats) n .heard in
     record {
-      missing = missing (before .any) (before .sequence) (m .sequence);
+      missing = missingBefore before m;
       reply = not (sameField (before .field) (fieldHeard m));
       standby = heardBench b n m .standby;
       at = cond (isSent b n m) (payloadAt p) 0;

@@ -1,4 +1,5 @@
--- What a packet for a seat does. (Pieces: what the private functions answer.)
+-- What a packet for a seat does, and what its seat counts. (Pieces: what the private functions answer.)
+pub mod Account
 pub mod Hearing
 pub mod Pieces
 pub mod Answers

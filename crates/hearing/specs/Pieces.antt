@@ -15,7 +15,7 @@ pub record Whole (p : List ℕ) : Type 0 where
   pub words : payloadAt p ≤ length p
   pub short : length p ≤ 376
 
--- 19 to 23, of a message that was read
+-- 19 to 23 and 33, of a message that was read
 unfoldable pub messageVerdict : Setup → (n : ℕ) → Seat → Tx → Answer (Unit {0})
 messageVerdict setup n s m = judged (messageRefusals setup n s m) tt
 

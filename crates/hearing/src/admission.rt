@@ -1,10 +1,12 @@
-// Whether a message is let in: refusals 19 to 23.
+// Whether a message is let in: refusals 19 to 23, and 33.
 ghost use mathlib.Core.Path.{_≡_};
 ghost use Rattle.packet.specs.Refusals.{verdictOf};
 ghost use Rattle.record.specs.Kind.{kindOf};
+ghost use Rattle.hearing.specs.Account.{totalsAfter, totalTooLarge};
 ghost use Rattle.hearing.specs.Hearing.{keyingBarred, idAllowed, sideBarred};
 ghost use Rattle.hearing.specs.Pieces.{messageVerdict};
 use crate::memory::has_side;
+use crate::memory::missing_before;
 use base::late;
 use base::other_ssrc;
 use packet::Refusal;
@@ -18,7 +20,10 @@ use record::lesson_seat;
 use seats::opening::may_key;
 use seats::opening::own_id;
 
-// 19 to 23, in this order.
+// Of heard plus missing, the most that a seat counts.
+const MOST: u64 = 4000000000;
+
+// 19 to 23 and 33, in this order.
 pub fn message_verdict(setup: Setup, n: u8, s: Seat, m: Tx) -> Verdict
     ensures { λ r. ⌜ verdictOf r ≡ messageVerdict setup n s m ⌝ }
 {
@@ -38,6 +43,9 @@ pub fn message_verdict(setup: Setup, n: u8, s: Seat, m: Tx) -> Verdict
     }
     if side_barred(lesson, setup.kind, m) {
         return Verdict::Refused(Refusal::SideNotAllowed);
+    }
+    if total_too_large(s, m) {
+        return Verdict::Refused(Refusal::TotalTooLarge);
     }
     Verdict::Fine
 }
@@ -65,4 +73,15 @@ fn side_barred(lesson: bool, code: u8, m: Tx) -> bool
     let side = m.side;
     let kind = kind_of(code);
     item_barred(kind, side) | (lesson & has_side(side))
+}
+
+// 33: heard plus missing would pass 4,000,000,000. In 64 bits, where the sum of any record fits.
+fn total_too_large(s: Seat, m: Tx) -> bool
+    ensures { λ r. ⌜ r ≡ totalTooLarge (totalsAfter s m) ⌝ }
+{
+    let totals = s.totals;
+    let last = s.heard;
+    let heard = totals.heard as u64 + 1;
+    let missing = totals.missing as u64 + missing_before(last, m) as u64;
+    MOST < heard + missing
 }

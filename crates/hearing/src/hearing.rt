@@ -14,9 +14,9 @@ ghost use Rattle.hearing.specs.Pieces.{Whole, admitted, letIn};
 use crate::admission::message_verdict;
 use crate::memory::field_heard;
 use crate::memory::heard_bench;
+use crate::memory::missing_before;
 use crate::memory::same_field;
 use air::aired;
-use base::missing;
 use base::part;
 use packet::Refusal;
 use packet::Tx;
@@ -51,7 +51,7 @@ pub struct Packeted {
     pub answer: PacketAnswer,
 }
 
-// A packet for seat n: what it answers, and the bench after it. Refused by 13, 14, 1 to 12, 19 to 23, in this order.
+// A packet for seat n: what it answers, and the bench after it. Refused by 13, 14, 1 to 12, 19 to 23, 33, in this order.
 pub fn packet(b: Bench, n: u8, p: &[u8]) -> Packeted
     ensures answer { λ r. ⌜ packetAnswer (r .answer) ≡ packetSaid b n (now (p .entry)) ⌝ }
     ensures bench { λ r. ⌜ r .bench ≡ settled (packetSaid b n (now (p .entry))) b (aired (heardBench b n (messageIn (now (p .entry))))) ⌝ }
@@ -73,7 +73,7 @@ pub fn packet(b: Bench, n: u8, p: &[u8]) -> Packeted
             let old = heard.field;
             let same = same_field(old, field_heard(m));
             let answer = PacketAnswer::Accepted(Hearing {
-                missing: missing(heard.any, heard.sequence, m.sequence),
+                missing: missing_before(heard, m),
                 reply: !same,
                 standby: after.standby,
                 at: sent_at(sent, p),
@@ -123,7 +123,7 @@ fn admitted(setup: Setup, n: u8, s: Seat, p: &[u8]) -> TxRead
     }
 }
 
-// 19 to 23, of a message that was read.
+// 19 to 23 and 33, of a message that was read.
 fn let_in(setup: Setup, n: u8, s: Seat, m: Tx) -> TxRead
     ensures { λ r. ⌜ txAnswer r ≡ letIn setup n s m ⌝ }
 {

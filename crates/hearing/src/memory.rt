@@ -3,8 +3,10 @@ ghost use mathlib.Core.Path.{_≡_};
 ghost use mathlib.Core.Bool.{false};
 ghost use Rattle.record.specs.Kind.{kindOf};
 ghost use Rattle.record.specs.Record.{noSuchSeat, seatOf};
+ghost use Rattle.hearing.specs.Account.{missingBefore, totalsAfter, totalTooLarge};
 ghost use Rattle.hearing.specs.Hearing.{hasDelay, delayOf, hasSide, isStandby, fieldHeard, heardSeat, sameField, takesEffect, sideAfter, heardBench};
 use air::order::order_after;
+use base::missing;
 use packet::ClimaxItem;
 use packet::SideItem;
 use packet::Tx;
@@ -12,12 +14,13 @@ use record::Bench;
 use record::Field;
 use record::Heard;
 use record::Seat;
+use record::Totals;
 use record::kind::items_move_side;
 use record::kind::kind_of;
 
 // The bench after an accepted message, s being the seat before it.
 pub fn heard_bench(b: Bench, n: u8, s: Seat, m: Tx) -> Bench
-    requires { ⌜ (noSuchSeat n ≡ false) × (s ≡ seatOf (b .seats) n) ⌝ }
+    requires { ⌜ (noSuchSeat n ≡ false) × (s ≡ seatOf (b .seats) n) × (totalTooLarge (totalsAfter s m) ≡ false) ⌝ }
     ensures { λ r. ⌜ r ≡ heardBench b n m ⌝ }
 {
     let setup = b.setup;
@@ -36,6 +39,7 @@ pub fn heard_bench(b: Bench, n: u8, s: Seat, m: Tx) -> Bench
 
 // The seat after an accepted message: its time left begins anew.
 fn heard_seat(s: Seat, m: Tx) -> Seat
+    requires { ⌜ totalTooLarge (totalsAfter s m) ≡ false ⌝ }
     ensures { λ r. ⌜ r ≡ heardSeat s m ⌝ }
 {
     let mut after = s;
@@ -47,7 +51,28 @@ fn heard_seat(s: Seat, m: Tx) -> Seat
         field: field_heard(m),
     };
     after.heard = heard;
+    after.totals = totals_after(s, m);
     after
+}
+
+// The totals of a seat after a message that 33 does not refuse, so that no sum wraps.
+fn totals_after(s: Seat, m: Tx) -> Totals
+    requires { ⌜ totalTooLarge (totalsAfter s m) ≡ false ⌝ }
+    ensures { λ r. ⌜ r ≡ totalsAfter s m ⌝ }
+{
+    let totals = s.totals;
+    let last = s.heard;
+    let heard = totals.heard + 1;
+    let before = totals.missing;
+    let missing = before + missing_before(last, m) as u32;
+    Totals { heard, missing }
+}
+
+// The packets missing between what the seat last accepted and the message.
+pub fn missing_before(last: Heard, m: Tx) -> u16
+    ensures { λ r. ⌜ r ≡ missingBefore last m ⌝ }
+{
+    missing(last.any, last.sequence, m.sequence)
 }
 
 // What the seat keeps of a message.

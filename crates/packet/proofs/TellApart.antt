@@ -5,7 +5,7 @@ use mathlib.Core.Bool.{cond}
 use lib.Dec.{eqb}
 use Rattle.packet.specs.Refusals.{numberOf, causeOf, accepted, refusal, verdictOf}
 use Rattle.packet.specs.declared.refusal.Refusal.{Refusal}
-use Rattle.packet.specs.declared.refusal.Refusal.the-variants.{TooShort, WrongVersion, PaddingOrMarker, NoExtension, PayloadType, ExtensionCut, ExtensionType, WordCount, WordsCut, FieldRule, ItemRule, PayloadLength, NoSuchSeat, SeatNotOpen, SeatOpenAlready, PeriodOrMultiplier, LessonCoupling, CouplingTaken, OtherSsrc, NotAfterLast, KeyingNotAllowed, OtherId, SideNotAllowed, ElapsedTooLong, ReportAudio, BufferTooShort, UnwritableValue}
+use Rattle.packet.specs.declared.refusal.Refusal.the-variants.{TooShort, WrongVersion, PaddingOrMarker, NoExtension, PayloadType, ExtensionCut, ExtensionType, WordCount, WordsCut, FieldRule, ItemRule, PayloadLength, NoSuchSeat, SeatNotOpen, SeatOpenAlready, PeriodOrMultiplier, LessonCoupling, CouplingTaken, OtherSsrc, NotAfterLast, KeyingNotAllowed, OtherId, SideNotAllowed, ElapsedTooLong, ReportAudio, BufferTooShort, UnwritableValue, TotalTooLarge}
 use Rattle.packet.specs.declared.refusal.Verdict.{Verdict}
 use Rattle.packet.specs.declared.refusal.Verdict.the-variants as verdict
 use Rattle.packet.proofs.Judged.{never}
@@ -39,7 +39,8 @@ named n =
     (cond (eqb n 24) ElapsedTooLong
     (cond (eqb n 25) ReportAudio
     (cond (eqb n 26) BufferTooShort
-    UnwritableValue)))))))))))))))))))))))))
+    (cond (eqb n 27) UnwritableValue
+    TotalTooLarge))))))))))))))))))))))))))
 
 named-back : (r : Refusal) → named (numberOf r) ≡ r
 unfolding named
@@ -70,6 +71,7 @@ named-back ElapsedTooLong = refl
 named-back ReportAudio = refl
 named-back BufferTooShort = refl
 named-back UnwritableValue = refl
+named-back TotalTooLarge = refl
 
 pub number-tells : (r s : Refusal) → numberOf r ≡ numberOf s → r ≡ s
 number-tells r s e = sym (named-back r) ∙ ap named e ∙ named-back s

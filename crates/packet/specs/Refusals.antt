@@ -6,11 +6,11 @@ use mathlib.Core.List.{List, [], _∷_}
 use mathlib.Core.Logic.{_⊎_}
 use lib.Dec.{eqb}
 use Rattle.packet.specs.declared.refusal.Refusal.{Refusal}
-use Rattle.packet.specs.declared.refusal.Refusal.the-variants.{TooShort, WrongVersion, PaddingOrMarker, NoExtension, PayloadType, ExtensionCut, ExtensionType, WordCount, WordsCut, FieldRule, ItemRule, PayloadLength, NoSuchSeat, SeatNotOpen, SeatOpenAlready, PeriodOrMultiplier, LessonCoupling, CouplingTaken, OtherSsrc, NotAfterLast, KeyingNotAllowed, OtherId, SideNotAllowed, ElapsedTooLong, ReportAudio, BufferTooShort, UnwritableValue}
+use Rattle.packet.specs.declared.refusal.Refusal.the-variants.{TooShort, WrongVersion, PaddingOrMarker, NoExtension, PayloadType, ExtensionCut, ExtensionType, WordCount, WordsCut, FieldRule, ItemRule, PayloadLength, NoSuchSeat, SeatNotOpen, SeatOpenAlready, PeriodOrMultiplier, LessonCoupling, CouplingTaken, OtherSsrc, NotAfterLast, KeyingNotAllowed, OtherId, SideNotAllowed, ElapsedTooLong, ReportAudio, BufferTooShort, UnwritableValue, TotalTooLarge}
 use Rattle.packet.specs.declared.refusal.Verdict.{Verdict}
 use Rattle.packet.specs.declared.refusal.Verdict.the-variants.{Fine, Refused}
 
--- The number of each refusal in 01's table.
+-- The number of each refusal in 01's table, and in 02.
 abbrev pub numberOf : Refusal → ℕ
 numberOf TooShort = 1
 numberOf WrongVersion = 2
@@ -39,6 +39,7 @@ numberOf ElapsedTooLong = 24
 numberOf ReportAudio = 25
 numberOf BufferTooShort = 26
 numberOf UnwritableValue = 27
+numberOf TotalTooLarge = 33
 
 -- "10 .. (cause 2012)", "11 .. (cause 2012)", "18 .. (cause 2005)"
 abbrev pub causeOf : ℕ → ℕ

@@ -1,4 +1,4 @@
-// What is turned away: every refusal of document 01, in the order of its table.
+// What is turned away: every refusal of document 01, in the order of its table, then those of 02.
 ghost use mathlib.Core.Path.{_≡_};
 ghost use Rattle.packet.specs.Refusals.{numberOf, causeOf};
 
@@ -30,6 +30,7 @@ pub enum Refusal {
     ReportAudio,
     BufferTooShort,
     UnwritableValue,
+    TotalTooLarge,
 }
 
 // What a run of tests found: nothing to turn away, or the first refusal.
@@ -38,7 +39,7 @@ pub enum Verdict {
     Refused(Refusal),
 }
 
-// Its number in 01's table.
+// Its number in 01's table, or in 02.
 pub fn number(r: Refusal) -> u8
     ensures { λ n. ⌜ n ≡ numberOf r ⌝ }
 {
@@ -70,6 +71,7 @@ pub fn number(r: Refusal) -> u8
         Refusal::ReportAudio => 25,
         Refusal::BufferTooShort => 26,
         Refusal::UnwritableValue => 27,
+        Refusal::TotalTooLarge => 33,
     }
 }
 

@@ -9,6 +9,7 @@ use Rattle.packet.specs.Refusals.{Answer, accepted, refused}
 use Rattle.record.specs.declared.setup.Setup.{Setup}
 use Rattle.record.specs.declared.seat.Field.{Field}
 use Rattle.record.specs.declared.seat.Heard.{Heard}
+use Rattle.record.specs.declared.seat.Totals.{Totals}
 use Rattle.record.specs.declared.seat.Seat.{Seat}
 use Rattle.record.specs.declared.shown.Air.{Air}
 use Rattle.record.specs.declared.whole.Bench.{Bench}
@@ -29,10 +30,14 @@ zeroField = record { ptt = 0; id = 0; pm = false; ptts = false; delayed = false;
 abbrev pub nothingHeard : Heard
 nothingHeard = record { any = false; ssrc = 0; sequence = 0; field = zeroField }
 
+-- 02, request 14: "totals per seat: heard and missing since opening"
+abbrev pub noTotals : Totals
+noTotals = record { heard = 0; missing = 0 }
+
 -- A closed seat remembers nothing at all.
 abbrev pub closedSeat : Seat
 closedSeat =
-    record { opened = false; call = 0; period = 0; multiplier = 0; left = 0; phase = 0; ssrc = 0; heard = nothingHeard }
+    record { opened = false; call = 0; period = 0; multiplier = 0; left = 0; phase = 0; ssrc = 0; heard = nothingHeard; totals = noTotals }
 
 -- "Opening and each accepted packet set a seat's time left to period times multiplier ms." (Opening, here.)
 unfoldable pub openedSeat : (call period multiplier ssrc : ℕ) → Seat
@@ -46,6 +51,7 @@ openedSeat call period multiplier ssrc =
       phase = 0;
       ssrc = ssrc;
       heard = nothingHeard;
+      totals = noTotals;
     }
 
 -- What is shown of the air while nobody is on it.

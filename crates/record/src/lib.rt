@@ -13,6 +13,7 @@ pub use kind::kind_code;
 pub use seat::Field;
 pub use seat::Heard;
 pub use seat::Seat;
+pub use seat::Totals;
 pub use seat::is_open;
 pub use seat::no_such_seat;
 pub use seat::place;

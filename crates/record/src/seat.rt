@@ -25,6 +25,13 @@ pub struct Heard {
     pub field: Field,
 }
 
+// How many packets since the seat was opened (02, request 14): accepted, and missing before them.
+#[repr(C)]
+pub struct Totals {
+    pub heard: u32,
+    pub missing: u32,
+}
+
 #[repr(C)]
 pub struct Seat {
     pub opened: bool,
@@ -39,6 +46,7 @@ pub struct Seat {
     // of its reports
     pub ssrc: u32,
     pub heard: Heard,
+    pub totals: Totals,
 }
 
 impl Field {
@@ -63,6 +71,13 @@ impl Heard {
     };
 }
 
+impl Totals {
+    pub const NONE: Totals = Totals {
+        heard: 0,
+        missing: 0,
+    };
+}
+
 impl Seat {
     pub const CLOSED: Seat = Seat {
         opened: false,
@@ -73,6 +88,7 @@ impl Seat {
         phase: 0,
         ssrc: 0,
         heard: Heard::NOTHING,
+        totals: Totals::NONE,
     };
 
     // A seat just opened has heard nothing.
@@ -88,6 +104,7 @@ impl Seat {
             phase: 0,
             ssrc,
             heard: Heard::NOTHING,
+            totals: Totals::NONE,
         }
     }
 }

@@ -41,7 +41,7 @@ module _ (ms period phase : ℕ) where
   phase-none : period ≡ 0 → phaseAfter ms period phase ≡ 0
   phase-none e = sym (search (tests, choice-true))
 
-  phase-goes-on : phase + ms < period → phaseAfter ms period phase ≡ phase + ms
+  pub phase-goes-on : phase + ms < period → phaseAfter ms period phase ≡ phase + ms
   phase-goes-on h = phase-kept (λ (none : period ≡ 0). omega arith) ∙ mod-eq-of-lt h
 
 pub phase-adds : (a b period phase : ℕ) → phaseAfter b period (phaseAfter a period phase) ≡ phaseAfter (a + b) period phase

@@ -34,6 +34,7 @@ aged ms s =
       phase = phaseAfter ms (s .period) (s .phase);
       ssrc = s .ssrc;
       heard = s .heard;
+      totals = s .totals;
     }
 
 -- the seat after a tick: closed by silence, a while older, or closed as it was

@@ -10,35 +10,37 @@ use Rattle.record.specs.Record.{freshBench}
 use Rattle.air.specs.Air.{keyings, benchAir}
 use Rattle.air.proofs.Kept.{air-unread, right-at-start}
 use Rattle.reporting.specs.Reporting.{reportOf, reportBytes, reportSaid, reportedBench}
-use Rattle.bench.specs.Step.{Call, opening, closing, packet, tick, report, received, transmitter, side, written, keeping}
+use Rattle.bench.specs.Step.{Call, opening, closing, packet, tick, report, received, transmitter, side, totals, written, keeping}
 use Rattle.bench.proofs.Keeping.{report-reads}
 use Rattle.record.specs.declared.setup.Setup.{Setup}
 use Rattle.record.specs.declared.whole.Bench.{Bench}
 use Rattle.demands.specs.ExactCalls.{refusalsOf}
-use Rattle.demands.specs.AirKept.{AirRight, NoReport, AirKept}
+use Rattle.demands.specs.AirKept.{AirRight, NoQuestion, AirKept}
 use Rattle.demands.proofs.Demand1.Calls.{benchAfter, after-call, accepted-bench}
 use Rattle.demands.proofs.Bench.Runs.{after-run}
 
 pub air-at-start : (setup : Setup) → AirRight (freshBench setup)
 air-at-start setup = subst AirRight (right-at-start setup) (sym (air-unread (freshBench setup)))
 
--- a report leaves what stands there, every other accepted call makes it right
-air-left : (b : Bench) (c : Call) → NoReport c ⊎ AirRight b → AirRight (benchAfter b c)
+-- a report and totals leave what stands there, every other accepted call makes it right
+air-left : (b : Bench) (c : Call) → NoQuestion c ⊎ AirRight b → AirRight (benchAfter b c)
 air-left b (opening n r) known = sym (air-unread _)
 air-left b (closing n) known = sym (air-unread _)
 air-left b (packet n p) known = sym (air-unread _)
 air-left b (tick ms timestamp room) known = sym (air-unread _)
-air-left b (report n timestamp sound room) (inl none) = absurd (none n timestamp sound room refl)
+air-left b (report n timestamp sound room) (inl none) = absurd (none .0 n timestamp sound room refl)
 air-left b (report n timestamp sound room) (inr right) = unfold reportedBench benchAir keyings in right
 air-left b (received signals level) known = sym (air-unread _)
 air-left b (transmitter healthy) known = sym (air-unread _)
 air-left b (side standby) known = sym (air-unread _)
+air-left b (totals n) (inl none) = absurd (none .1 n refl)
+air-left b (totals n) (inr right) = right
 
 pub air-by-call : (b : Bench) (c : Call) → AirRight b → AirRight (keeping b c .bench)
 air-by-call b c right = after-call AirRight b c right (λ none. air-left b c (inr right))
 
-by-accepted : (b : Bench) (c : Call) → NoCase (refusalsOf b c) → NoReport c → AirRight (keeping b c .bench)
-by-accepted b c none no-report = subst AirRight (sym (accepted-bench b c none)) (air-left b c (inl no-report))
+by-accepted : (b : Bench) (c : Call) → NoCase (refusalsOf b c) → NoQuestion c → AirRight (keeping b c .bench)
+by-accepted b c none no-question = subst AirRight (sym (accepted-bench b c none)) (air-left b c (inl no-question))
 
 by-report : (b : Bench) (n timestamp : ℕ) (sound : List ℕ) (room : ℕ) → keeping b (report n timestamp sound room) .bench .air ≡ b .air
 by-report b n timestamp sound room =

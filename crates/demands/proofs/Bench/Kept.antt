@@ -18,7 +18,7 @@ use Rattle.seats.specs.Ticking.{tickedSeat, dueSeats, tickedBench}
 use Rattle.hearing.specs.Hearing.{fieldHeard, heardSeat, heardBench, messageIn}
 use Rattle.reporting.specs.Reporting.{reportedBench}
 use Rattle.sending.specs.Sending.{sentBench}
-use Rattle.bench.specs.Step.{Call, opening, closing, packet, tick, report, received, transmitter, side, keeping, after}
+use Rattle.bench.specs.Step.{Call, opening, closing, packet, tick, report, received, transmitter, side, totals, keeping, after}
 use Rattle.record.specs.declared.kind.Kind.the-variants.{Single}
 use Rattle.record.specs.declared.setup.Setup.{Setup}
 use Rattle.record.specs.declared.seat.Seat.{Seat}
@@ -88,6 +88,7 @@ module _ (b : Bench) (kept : Kept b) where
   sequences-kept (received signals level) fits = (kept .eight-sequences, kept .sequences-fit)
   sequences-kept (transmitter healthy) fits = (kept .eight-sequences, kept .sequences-fit)
   sequences-kept (side standby) fits = (kept .eight-sequences, kept .sequences-fit)
+  sequences-kept (totals n) fits = (kept .eight-sequences, kept .sequences-fit)
 
   -- ---- the order
 
@@ -101,6 +102,7 @@ module _ (b : Bench) (kept : Kept b) where
   order-kept (received signals level) = (refl, λ m. refl)
   order-kept (transmitter healthy) = (refl, λ m. refl)
   order-kept (side standby) = (refl, λ m. refl)
+  order-kept (totals n) = (refl, λ m. refl)
 
   -- ---- each seat
 
@@ -124,6 +126,7 @@ module _ (b : Bench) (kept : Kept b) where
   seat-kept (received signals level) fits none n = kept .each-seat n
   seat-kept (transmitter healthy) fits none n = kept .each-seat n
   seat-kept (side standby) fits none n = kept .each-seat n
+  seat-kept (totals m) fits none n = kept .each-seat n
 
   -- ---- one seat of call type Coupling
 
@@ -154,6 +157,7 @@ module _ (b : Bench) (kept : Kept b) where
   coupling-kept (received signals level) none m n e f = kept .one-coupling m n e f
   coupling-kept (transmitter healthy) none m n e f = kept .one-coupling m n e f
   coupling-kept (side standby) none m n e f = kept .one-coupling m n e f
+  coupling-kept (totals k) none m n e f = kept .one-coupling m n e f
 
   -- ---- the side of a single radio
 
@@ -170,6 +174,7 @@ module _ (b : Bench) (kept : Kept b) where
   main-kept (report n timestamp sound room) fits none single = kept .single-on-main single
   main-kept (received signals level) fits none single = kept .single-on-main single
   main-kept (transmitter healthy) fits none single = kept .single-on-main single
+  main-kept (totals n) fits none single = kept .single-on-main single
 
   -- ---- all of it
 

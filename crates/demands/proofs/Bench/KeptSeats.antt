@@ -7,7 +7,7 @@ use mathlib.Core.Logic.{_⊎_, inl, inr}
 use native.Mathlib.Omega.{arith}
 use native.Mathlib.Nat.{mod-lt, mul-pos}
 use lib.Dec.{eqb}
-use borrow.Author.Tests.{eqb-true, eq-eqb, ne-eqb, not-false}
+use borrow.Author.Tests.{eqb-true, eq-eqb, ne-eqb, not-false, ltb-false}
 use Rattle.base.specs.Bytes.{Bytes}
 use Rattle.base.proofs.Truths.{and-right, and-rest, or-left, or-right, or-rest}
 use Rattle.base.proofs.Numbers.{number16-small}
@@ -21,6 +21,7 @@ use Rattle.record.specs.Kind.{kindOf}
 use Rattle.record.specs.Record.{zeroField, closedSeat, openedSeat, seatOf, lesson}
 use Rattle.seats.specs.Opening.{callCode, isTxRx, isCoupling, shortest, fewest, ownId}
 use Rattle.seats.specs.Ticking.{phaseAfter, aged, tickedSeat}
+use Rattle.hearing.specs.Account.{totalTooLarge}
 use Rattle.hearing.specs.Hearing.{hasDelay, delayOf, hasSide, isStandby, fieldHeard, keyingBarred, idAllowed, sideBarred, messageIn, heardSeat}
 use Rattle.record.specs.declared.kind.Kind.{Kind}
 use Rattle.record.specs.declared.setup.Setup.{Setup}
@@ -115,6 +116,7 @@ closed-seat-kept setup n =
       lesson-not-coupling = λ e. refl;
       nothing-yet = λ e. refl;
       field-kept = zero-field-kept (lesson setup n) (kindOf (setup .kind)) 0 0;
+      totals-most = omega arith;
       sequence-fits = omega arith;
       heard-ssrc-fits = omega arith;
       ssrc-fits = omega arith;
@@ -132,7 +134,7 @@ some-time period multiplier h k =
     let some-multiplier : 0 < multiplier = omega arith in
     mul-pos some-period some-multiplier
 
-phase-after-below : (ms period phase : ℕ) → 1 ≤ period → phaseAfter ms period phase < period
+pub phase-after-below : (ms period phase : ℕ) → 1 ≤ period → phaseAfter ms period phase < period
 phase-after-below ms period phase h = rw (ne-eqb period 0 (λ e. omega arith)) (mod-lt (phase + ms) h)
 
 module _ (setup : Setup) (n : ℕ) (seats : List Seat) where
@@ -156,6 +158,7 @@ module _ (setup : Setup) (n : ℕ) (seats : List Seat) where
         lesson-not-coupling = passed .lesson-not-coupling;
         nothing-yet = λ e. refl;
         field-kept = zero-field-kept (lesson setup n) (kindOf (setup .kind)) (callCode (r .call)) (ownId n (callCode (r .call)));
+        totals-most = omega arith;
         sequence-fits = omega arith;
         heard-ssrc-fits = omega arith;
         ssrc-fits = fits;
@@ -184,6 +187,7 @@ module _ (setup : Setup) (n : ℕ) (seats : List Seat) where
         nothing-yet = λ e. cc;
         field-kept = heard-field-kept (lesson setup n) (kindOf (setup .kind)) (s .call) (ownId n (s .call)) (messageIn p)
             (type-known (setup .ext) p (passed .was-read)) (passed .may-key) (passed .id-allowed) (passed .may-ask-side);
+        totals-most = ltb-false _ _ (unfold totalTooLarge in passed .total-fits);
         sequence-fits = number16-small p small 2;
         heard-ssrc-fits = omega (arith, number16-small p small 8, number16-small p small 10);
         ssrc-fits = kept .ssrc-fits;
@@ -209,6 +213,7 @@ aged-seat-kept setup n ms s is-open younger kept =
       lesson-not-coupling = kept .lesson-not-coupling;
       nothing-yet = kept .nothing-yet;
       field-kept = kept .field-kept;
+      totals-most = kept .totals-most;
       sequence-fits = kept .sequence-fits;
       heard-ssrc-fits = kept .heard-ssrc-fits;
       ssrc-fits = kept .ssrc-fits;

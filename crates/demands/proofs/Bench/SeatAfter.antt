@@ -13,7 +13,7 @@ use Rattle.seats.specs.Ticking.{tickedSeat, tickedBench}
 use Rattle.hearing.specs.Hearing.{heardSeat, heardBench, messageIn}
 use Rattle.reporting.specs.Reporting.{reportedBench}
 use Rattle.sending.specs.Sending.{sentBench}
-use Rattle.bench.specs.Step.{Call, opening, closing, packet, tick, report, received, transmitter, side, Said, keeping, after, wasAccepted, acceptedCalls}
+use Rattle.bench.specs.Step.{Call, opening, closing, packet, tick, report, received, transmitter, side, totals, Said, keeping, after, wasAccepted, acceptedCalls}
 use Rattle.record.specs.declared.seat.Seat.{Seat}
 use Rattle.record.specs.declared.whole.Bench.{Bench}
 use Rattle.demands.specs.ExactCalls.{refusalsOf}
@@ -37,6 +37,7 @@ same-setup b (report n timestamp sound room) = refl
 same-setup b (received signals level) = refl
 same-setup b (transmitter healthy) = refl
 same-setup b (side standby) = refl
+same-setup b (totals n) = refl
 
 pub setup-kept : (b : Bench) (c : Call) → keeping b c .bench .setup ≡ b .setup
 setup-kept b c = after-call (λ (x : Bench). x .setup ≡ b .setup) b c refl (λ none. same-setup b c)
@@ -51,6 +52,7 @@ as-many-seats b (report n timestamp sound room) = refl
 as-many-seats b (received signals level) = refl
 as-many-seats b (transmitter healthy) = refl
 as-many-seats b (side standby) = refl
+as-many-seats b (totals n) = refl
 
 pub eight-seats : (b : Bench) (c : Call) → length (keeping b c .bench .seats) ≡ length (b .seats)
 eight-seats b c = after-call (λ (x : Bench). length (x .seats) ≡ length (b .seats)) b c refl (λ none. as-many-seats b c)
@@ -77,6 +79,7 @@ seat-made b (report m timestamp sound room) eight none n = refl
 seat-made b (received signals level) eight none n = refl
 seat-made b (transmitter healthy) eight none n = refl
 seat-made b (side standby) eight none n = refl
+seat-made b (totals m) eight none n = refl
 
 pub seat-after : (b : Bench) (c : Call) → length (b .seats) ≡ 8 → NoCase (refusalsOf b c) → (n : ℕ)
     → seatOf (keeping b c .bench .seats) n ≡ seatAfter c n (seatOf (b .seats) n)

@@ -1,11 +1,11 @@
 -- Main and standby behind one address.
 use Prim.Native.Nat.{ℕ}
-use mathlib.Core.Path.{_≡_, refl, sym, ap, _∙_}
+use mathlib.Core.Path.{_≡_, refl, ap, _∙_}
 use mathlib.Core.Bool.{Bool, true, false, not}
 use mathlib.Core.List.{List, [], _∷_}
 use Rattle.base.proofs.Truths.{and-none, or-none}
-use Rattle.packet.specs.Refusals.{NoCase, accepted, refused}
-use Rattle.packet.proofs.Judged.{meets-none, accepts}
+use Rattle.packet.specs.Refusals.{accepted, refused}
+use Rattle.packet.proofs.Judged.{accepts}
 use Rattle.reader.specs.Reading.{readerRefusals, readRx}
 use Rattle.writer.specs.Writing.{fromRx}
 use Rattle.packet.specs.declared.message.SideItem.the-variants as item
@@ -22,7 +22,7 @@ use Rattle.hearing.proofs.Sides.{shared-bars, zero-or-none-shared, no-item-less
 use Rattle.hearing.proofs.Accepted.{PacketAccepted, packet-accepted}
 use Rattle.reporting.specs.Reporting.{reportOf, reportBytes, reportRefusals, reportSaid, reportedBench}
 use Rattle.sending.specs.Sending.{sentBench}
-use Rattle.bench.specs.Step.{Call, opening, closing, packet, tick, report, received, transmitter, side, Said, done, heard, written, does, keeping, after}
+use Rattle.bench.specs.Step.{Call, opening, closing, packet, tick, report, received, transmitter, side, totals, Said, done, heard, written, does, keeping, after}
 use Rattle.record.specs.declared.kind.Kind.{Kind}
 use Rattle.record.specs.declared.kind.Kind.the-variants.{Single, Pair, Shared}
 use Rattle.record.specs.declared.setup.Setup.{Setup}
@@ -33,7 +33,7 @@ use Rattle.demands.specs.AirKept.{AirRight}
 use Rattle.demands.specs.RoundTrip.{Narrow}
 use Rattle.demands.specs.SharedRadio.{IsShared, sideBy, lastSide, SharedRadio}
 use Rattle.demands.proofs.Demand1.Exact.{holdsFor, first-holds}
-use Rattle.demands.proofs.Demand1.Calls.{saidBy, benchAfter, call-answer, after-call}
+use Rattle.demands.proofs.Demand1.Calls.{benchAfter, was-accepted, after-call}
 use Rattle.demands.proofs.Demand1.ExactCalls.{calls-exact}
 use Rattle.demands.proofs.Demand2.RoundTrip.{reports-read-back}
 use Rattle.demands.proofs.Bench.SeatAfter.{setup-kept}
@@ -68,6 +68,7 @@ module _ (b : Bench) (shared : IsShared b) where
   by-each-call (report n timestamp sound room) = stays (report n timestamp sound room) (unfold reportedBench in refl)
   by-each-call (received signals level) = stays (received signals level) refl
   by-each-call (transmitter healthy) = stays (transmitter healthy) refl
+  by-each-call (totals n) = stays (totals n) refl
   by-each-call (side standby) = ap (λ o. o .bench .standby) (event-accepted standby)
 
 run : (b : Bench) (cs : List Call) → IsShared b → after keeping b cs .standby ≡ lastSide (b .standby) cs
@@ -76,10 +77,6 @@ run b [] shared = refl
 run b (c ∷ cs) shared =
     run (keeping b c .bench) cs (ap (λ (setup : Setup). kindOf (setup .kind)) (setup-kept b c) ∙ shared)
     ∙ ap (λ (inUse : Bool). lastSide inUse cs) (by-each-call b shared c)
-
--- an accepted call met no case, and tells what saidBy has
-was-accepted : (b : Bench) (c : Call) (said : Said) → keeping b c .answer ≡ accepted said → NoCase (refusalsOf b c) × (saidBy b c ≡ said)
-was-accepted b c said e = meets-none (refusalsOf b c) (saidBy b c) said (sym (call-answer b c) ∙ e)
 
 side-answered : (b : Bench) (n : ℕ) (p : List ℕ) (missing : ℕ) (reply standby : Bool) (sound : List ℕ) → IsShared b
     → keeping b (packet n p) .answer ≡ accepted (heard missing reply standby sound) → standby ≡ b .standby

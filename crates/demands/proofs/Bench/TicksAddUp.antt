@@ -56,7 +56,7 @@ closed-flag : (b : Bench) (ms n : ℕ) → isIn (silentSeats b ms) n ≡ fallsSi
 unfolding fallsSilent
 closed-flag b ms n = flag (fallsSilent ms) refl (b .seats) n
 
-due-flag : (b : Bench) (ms n : ℕ) → isIn (dueSeats b ms) n ≡ isDue ms (seatOf (b .seats) n)
+pub due-flag : (b : Bench) (ms n : ℕ) → isIn (dueSeats b ms) n ≡ isDue ms (seatOf (b .seats) n)
 unfolding isDue
 due-flag b ms n = flag (isDue ms) refl (b .seats) n
 

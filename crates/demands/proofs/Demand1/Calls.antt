@@ -1,19 +1,20 @@
 -- Every call in one form: a list of refusals, what it tells, and what it makes of the bench.
 use mathlib.Core.Path.{_≡_, refl, sym, ap, subst, _∙_}
 use mathlib.Core.List.{List}
-use Rattle.packet.specs.Refusals.{Case, NoCase, Answer, judged}
-use Rattle.record.specs.Record.{settled, withSide, withHealth, withSignals}
+use Rattle.packet.specs.Refusals.{Case, NoCase, Answer, accepted, judged}
+use Rattle.record.specs.Record.{settled, seatOf, withSide, withHealth, withSignals}
 use Rattle.seats.specs.Opening.{ownId, callCode, openSaid, openedBench, closeSaid, closedBench, seatVerdict}
 use Rattle.seats.specs.Ticking.{silentSeats, dueSeats}
 use Rattle.seats.specs.Radio.{sideSaid}
 use Rattle.air.specs.Air.{aired}
+use Rattle.hearing.specs.Account.{totalsSaid}
 use Rattle.hearing.specs.Hearing.{packetSaid, hearing, heardBench, messageIn}
 use Rattle.reporting.specs.Reporting.{reportSaid, reportBytes, reportedBench}
 use Rattle.sending.specs.Sending.{records, sentBench, tickSaid}
-use Rattle.bench.specs.Step.{Call, opening, closing, packet, tick, report, received, transmitter, side, Said, done, own, ticked, written, told, does, keeping}
+use Rattle.bench.specs.Step.{Call, opening, closing, packet, tick, report, received, transmitter, side, totals, Said, done, own, ticked, written, told, counts, does, keeping}
 use Rattle.record.specs.declared.whole.Bench.{Bench}
 use Rattle.demands.specs.ExactCalls.{refusalsOf}
-use Rattle.packet.proofs.Judged.{judged-both, judged-one, judged-mapped, accepts}
+use Rattle.packet.proofs.Judged.{judged-both, judged-one, judged-mapped, accepts, meets-none}
 
 -- what a call tells where no case of its list holds
 abbrev pub saidBy : Bench → Call → Said
@@ -25,6 +26,7 @@ saidBy b (report n timestamp sound room) = written (reportBytes b n timestamp so
 saidBy b (received signals level) = done
 saidBy b (transmitter healthy) = done
 saidBy b (side standby) = done
+saidBy b (totals n) = counts (seatOf (b .seats) n .totals)
 
 -- what it then makes of the bench
 abbrev pub benchAfter : Bench → Call → Bench
@@ -36,6 +38,7 @@ benchAfter b (report n timestamp sound room) = reportedBench b n
 benchAfter b (received signals level) = aired (withSignals b signals level)
 benchAfter b (transmitter healthy) = aired (withHealth b healthy)
 benchAfter b (side standby) = aired (withSide b standby)
+benchAfter b (totals n) = b
 
 -- the value does not matter for whether the bench moves
 settled-judged : {A B : Type 0} (cs : List Case) (a : A) (b : B) (before after : Bench)
@@ -43,7 +46,7 @@ settled-judged : {A B : Type 0} (cs : List Case) (a : A) (b : B) (before after :
 settled-judged cs a b before after = judged-both (λ x y. settled x before after ≡ settled y before after) cs a b (λ n c. refl) (λ none. refl)
 
 pub call-answer : (b : Bench) (c : Call) → keeping b c .answer ≡ judged (refusalsOf b c) (saidBy b c)
-unfolding does openSaid closeSaid seatVerdict packetSaid tickSaid reportSaid sideSaid
+unfolding does openSaid closeSaid seatVerdict packetSaid tickSaid reportSaid sideSaid totalsSaid
 call-answer b (opening n r) = judged-mapped own (refusalsOf b (opening n r)) (ownId n (callCode (r .call)))
 call-answer b (closing n) = judged-mapped (λ u. done) (refusalsOf b (closing n)) tt
 call-answer b (packet n p) = judged-mapped (told (packetSaid b n p) p) (refusalsOf b (packet n p)) (hearing b n p)
@@ -54,9 +57,10 @@ call-answer b (report n timestamp sound room) =
 call-answer b (received signals level) = refl
 call-answer b (transmitter healthy) = refl
 call-answer b (side standby) = judged-mapped (λ u. done) (refusalsOf b (side standby)) tt
+call-answer b (totals n) = judged-mapped counts (refusalsOf b (totals n)) (seatOf (b .seats) n .totals)
 
 pub call-bench : (b : Bench) (c : Call) → keeping b c .bench ≡ settled (judged (refusalsOf b c) (saidBy b c)) b (benchAfter b c)
-unfolding does openSaid closeSaid seatVerdict packetSaid tickSaid reportSaid sideSaid
+unfolding does openSaid closeSaid seatVerdict packetSaid tickSaid reportSaid sideSaid totalsSaid
 call-bench b (opening n r) = settled-judged (refusalsOf b (opening n r)) _ _ b _
 call-bench b (closing n) = settled-judged (refusalsOf b (closing n)) _ _ b _
 call-bench b (packet n p) = settled-judged (refusalsOf b (packet n p)) _ _ b _
@@ -65,6 +69,11 @@ call-bench b (report n timestamp sound room) = settled-judged (refusalsOf b (rep
 call-bench b (received signals level) = refl
 call-bench b (transmitter healthy) = refl
 call-bench b (side standby) = settled-judged (refusalsOf b (side standby)) _ _ b _
+call-bench b (totals n) = settled-judged (refusalsOf b (totals n)) _ _ b _
+
+-- an accepted call met no case, and tells what saidBy has
+pub was-accepted : (b : Bench) (c : Call) (said : Said) → keeping b c .answer ≡ accepted said → NoCase (refusalsOf b c) × (saidBy b c ≡ said)
+was-accepted b c said e = meets-none (refusalsOf b c) (saidBy b c) said (sym (call-answer b c) ∙ e)
 
 -- what holds of the bench, and of what the call makes of it where it is accepted, holds after the call
 pub after-call : (P : Bench → Type 0) (b : Bench) (c : Call) → P b → (NoCase (refusalsOf b c) → P (benchAfter b c)) → P (keeping b c .bench)

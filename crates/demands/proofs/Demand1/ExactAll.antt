@@ -36,6 +36,7 @@ orders =
       of-report = λ b n timestamp sound room. refl;
       of-tick = λ b ms timestamp room. refl;
       of-side = λ b standby. refl;
+      of-totals = λ b n. refl;
       of-received = λ b signals level. refl;
       of-transmitter = λ b healthy. refl;
       of-writers = λ ext m sound room. refl;

@@ -8,7 +8,7 @@ use Rattle.base.proofs.Truths.{either-way}
 use Rattle.packet.specs.Refusals.{accepted}
 use Rattle.record.specs.Record.{seatNumbers, lesson, freshBench}
 use Rattle.record.proofs.Seats.{same-lessons}
-use Rattle.bench.specs.Step.{Call, opening, closing, packet, tick, report, received, transmitter, side, heard, Machine, step, keeping, after}
+use Rattle.bench.specs.Step.{Call, opening, closing, packet, tick, report, received, transmitter, side, totals, heard, Machine, step, keeping, after}
 use Rattle.record.specs.declared.setup.Setup.{Setup}
 use Rattle.record.specs.declared.seat.Seat.{Seat}
 use Rattle.record.specs.declared.whole.Bench.{Bench}
@@ -45,6 +45,7 @@ later-low b (report n timestamp sound room) live = refl
 later-low b (received signals level) live = refl
 later-low b (transmitter healthy) live = refl
 later-low b (side standby) live = refl
+later-low b (totals n) live = refl
 
 handled-low : (setup : Setup) (b : Bench) (cs : List Call) → b .setup ≡ setup → Reached b
     → withoutLessons setup (handled keeping b cs) ≡ handled step (low b) (withoutLessons setup cs)

@@ -19,9 +19,10 @@ use Rattle.record.specs.Record.{seatNumbers, openedSeat, freshBench, seatOf, le
 use Rattle.seats.specs.Opening.{anyCoupling, openRefusals, openSaid, openedBench, seatRefusals}
 use Rattle.air.specs.Air.{takesPart, keyingsOf, keyings, topRank, atRank, leaders, added, onAir, among, smallest, anySends, airOf, benchAir}
 use Rattle.air.specs.Order.{begins, toLast, orderAfter}
+use Rattle.hearing.specs.Account.{totalsAfter, totalTooLarge}
 use Rattle.hearing.specs.Hearing.{fieldHeard, keyingBarred, idAllowed, sideBarred, messageRefusals, packetRefusals, heardSeat, takesEffect, sideAfter, heardBench, sameField, isSent, hearing, packetSaid, audioIn}
 use Rattle.reporting.specs.Reporting.{reportOf, reportBytes, reportRefusals, reportSaid, reportedBench}
-use Rattle.bench.specs.Step.{Call, packet, Said, done, own, heard, ticked, written, Outcome, Machine, does, keeping, after}
+use Rattle.bench.specs.Step.{Call, packet, Said, done, own, heard, ticked, written, totalled, Outcome, Machine, does, keeping, after}
 use Rattle.record.specs.declared.setup.Setup.{Setup}
 use Rattle.record.specs.declared.whole.Bench.{Bench}
 use Rattle.demands.specs.Apart.{pttOf, liveAboveTest, asSeen, amongLive, recordsSeen, fixed, compared}
@@ -37,7 +38,7 @@ use Rattle.demands.proofs.Demand2.Nodding.{nodding-apart}
 -- ---- the calls that are tried, computed
 
 tried : Tried
-unfolding centred distance late missing payload payloadAllowed fieldAllowed afterField allZero itemsBehind itemAllowed allAllowed hasType noTypeTwice runAllowed itemsAllowed itemsOf sqiAmong climaxAmong sideAmong kept quality readerRefusals itemsHere messageOf risingItems itemBytes wordsOf headOf encode kindOf openedSeat freshBench seatOf lesson anyCoupling openRefusals openSaid openedBench takesPart keyingsOf keyings topRank atRank leaders added onAir among smallest howMany anySends airOf benchAir fieldHeard keyingBarred idAllowed sideBarred seatRefusals messageRefusals packetRefusals heardSeat begins toLast orderAfter takesEffect sideAfter heardBench sameField isSent hearing packetSaid audioIn reportOf reportBytes reportRefusals reportSaid reportedBench does after
+unfolding centred distance late missing payload payloadAllowed fieldAllowed afterField allZero itemsBehind itemAllowed allAllowed hasType noTypeTwice runAllowed itemsAllowed itemsOf sqiAmong climaxAmong sideAmong kept quality readerRefusals itemsHere messageOf risingItems itemBytes wordsOf headOf encode kindOf openedSeat freshBench seatOf lesson anyCoupling openRefusals openSaid openedBench takesPart keyingsOf keyings topRank atRank leaders added onAir among smallest howMany anySends airOf benchAir fieldHeard keyingBarred idAllowed sideBarred seatRefusals totalsAfter totalTooLarge messageRefusals packetRefusals heardSeat begins toLast orderAfter takesEffect sideAfter heardBench sameField isSent hearing packetSaid audioIn reportOf reportBytes reportRefusals reportSaid reportedBench does after
 tried =
     record {
       opens = refl;
@@ -193,6 +194,7 @@ bytes-retelling bytes = record { seen = seen; follows = follows; same-audio = sa
     seen setup up (heard missing reply standby sound) = heard missing reply standby sound
     seen setup up (ticked closed due records) = ticked closed due (recordsSeen setup up (bytesFor bytes due))
     seen setup up (written told) = written (asSeen up bytes)
+    seen setup up (totalled packets missing) = totalled packets missing
 
     follows : (setup : Setup) (up keysTest : Bool) (s : Said) → fixed setup up keysTest (withBytes bytes s) ≡ seen setup up (fixed setup up keysTest s)
     follows setup up keysTest done = refl
@@ -200,6 +202,7 @@ bytes-retelling bytes = record { seen = seen; follows = follows; same-audio = sa
     follows setup up keysTest (heard missing reply standby sound) = refl
     follows setup up keysTest (ticked closed due records) = ap (ticked (amongLive setup closed) (amongLive setup due)) (bytes-seen setup up bytes due)
     follows setup up keysTest (written told) = refl
+    follows setup up keysTest (totalled packets missing) = refl
 
     same-audio : (s : Said) → audioSent (accepted (withBytes bytes s)) ≡ audioSent (accepted s)
     same-audio done = refl
@@ -207,6 +210,7 @@ bytes-retelling bytes = record { seen = seen; follows = follows; same-audio = sa
     same-audio (heard missing reply standby sound) = refl
     same-audio (ticked closed due records) = refl
     same-audio (written told) = refl
+    same-audio (totalled packets missing) = refl
 
 count-retelling : (count : ℕ) → Retelling (withCount count)
 unfolding fixed audioSent
@@ -219,6 +223,7 @@ count-retelling count = record { seen = λ setup up. withCount count; follows = 
     follows setup up keysTest (heard missing reply standby sound) = refl
     follows setup up keysTest (ticked closed due records) = refl
     follows setup up keysTest (written told) = refl
+    follows setup up keysTest (totalled packets missing) = refl
 
     same-audio : (s : Said) → audioSent (accepted (withCount count s)) ≡ audioSent (accepted s)
     same-audio done = refl
@@ -226,6 +231,7 @@ count-retelling count = record { seen = λ setup up. withCount count; follows = 
     same-audio (heard missing reply standby sound) = refl
     same-audio (ticked closed due records) = refl
     same-audio (written told) = refl
+    same-audio (totalled packets missing) = refl
 
 apart-alone : (w : WrongBench) → ApartAlone (wrong w)
 apart-alone (refusing number cause) = still-apart (wrong (refusing number cause)) (λ b c. refl)

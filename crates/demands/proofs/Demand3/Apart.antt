@@ -9,7 +9,7 @@ use Rattle.packet.specs.Refusals.{mapped}
 use Rattle.record.specs.Record.{seatNumbers, lesson, freshBench, withHealth, withSignals}
 use Rattle.record.proofs.Seats.{same-lessons}
 use Rattle.air.specs.Air.{aired}
-use Rattle.bench.specs.Step.{Call, opening, closing, packet, tick, report, received, transmitter, side, done, does, step, keeping, after}
+use Rattle.bench.specs.Step.{Call, opening, closing, packet, tick, report, received, transmitter, side, totals, done, does, step, keeping, after}
 use Rattle.record.specs.declared.setup.Setup.{Setup}
 use Rattle.record.specs.declared.seat.Seat.{Seat}
 use Rattle.record.specs.declared.whole.Bench.{Bench}
@@ -22,7 +22,7 @@ use Rattle.demands.proofs.Bench.SeatAfter.{setup-kept}
 use Rattle.demands.proofs.Demand3.LessonSeats.{Held, held-call, held-fresh}
 use Rattle.demands.proofs.Demand3.BenchAir.{above-test-low}
 use Rattle.demands.proofs.Demand3.LessonCalls.{unseen}
-use Rattle.demands.proofs.Demand3.LiveCalls.{Match, match-plain, match-opening, match-closing, match-side}
+use Rattle.demands.proofs.Demand3.LiveCalls.{Match, match-plain, match-opening, match-closing, match-side, match-totals}
 use Rattle.demands.proofs.Demand3.LiveReports.{match-report}
 use Rattle.demands.proofs.Demand3.LiveTicks.{match-tick}
 use Rattle.demands.proofs.Demand3.LivePackets.{match-packet, no-lesson-audio}
@@ -53,6 +53,7 @@ matched b (received signals level) i live =
 matched b (transmitter healthy) i live =
     unfold does in match-plain (b .setup) (transmitter healthy) (aired (withHealth b healthy)) _ done (unfold low in refl)
 matched b (side standby) i live = match-side b standby
+matched b (totals n) i live = match-totals b n live
 
 -- and so its answer is the same in all that is compared
 compared-low : (b : Bench) (c : Call) → Reached b → lesson (b .setup) (named c) ≡ false

@@ -10,7 +10,7 @@ use Rattle.record.specs.Record.{noSuchSeat, seatOf, lesson}
 use Rattle.seats.specs.Opening.{openedBench, closedBench}
 use Rattle.hearing.specs.Hearing.{messageIn, fieldHeard, heardBench}
 use Rattle.reporting.specs.Reporting.{reportedBench}
-use Rattle.bench.specs.Step.{Call, opening, closing, packet, tick, report, received, transmitter, side, keeping}
+use Rattle.bench.specs.Step.{Call, opening, closing, packet, tick, report, received, transmitter, side, totals, keeping}
 use Rattle.record.specs.declared.whole.Bench.{Bench}
 use Rattle.seats.specs.declared.opening.Request.{Request}
 use Rattle.demands.specs.Apart.{named}
@@ -60,6 +60,7 @@ unseen b c hidden = after-call (λ (x : Bench). low x ≡ low b) b c refl (made-
     made-unseen (closing n) hidden none = closed-unseen b n hidden (seat-accepted n (seatOf (b .seats) n .opened) none .is-seat)
     made-unseen (packet n p) hidden none = let h = packet-accepted (b .setup) n (seatOf (b .seats) n) p none in heard-unseen b n hidden (h .is-seat) p h
     made-unseen (report n timestamp sound room) hidden none = reported-unseen b n hidden (report-accepted b n timestamp sound room none .is-seat)
+    made-unseen (totals n) hidden none = refl
     made-unseen (tick ms timestamp room) hidden none = absurd (none-named hidden)
     made-unseen (received signals level) hidden none = absurd (none-named hidden)
     made-unseen (transmitter healthy) hidden none = absurd (none-named hidden)

@@ -18,7 +18,7 @@ use Rattle.air.specs.Air.{rank, among, aired}
 use Rattle.hearing.specs.Hearing.{pttOn, keyingBarred, messageIn, heardSeat, fieldHeard, heardBench}
 use Rattle.reporting.specs.Reporting.{reportedBench}
 use Rattle.sending.specs.Sending.{sentBench}
-use Rattle.bench.specs.Step.{Call, opening, closing, packet, tick, report, received, transmitter, side, keeping}
+use Rattle.bench.specs.Step.{Call, opening, closing, packet, tick, report, received, transmitter, side, totals, keeping}
 use Rattle.record.specs.declared.setup.Setup.{Setup}
 use Rattle.record.specs.declared.seat.Seat.{Seat}
 use Rattle.record.specs.declared.whole.Bench.{Bench}
@@ -113,6 +113,7 @@ held-made b (report n timestamp sound room) i none = unfold reportedBench in rec
 held-made b (received signals level) i none = record { meek = i .meek; placed = i .placed }
 held-made b (transmitter healthy) i none = record { meek = i .meek; placed = i .placed }
 held-made b (side standby) i none = record { meek = i .meek; placed = i .placed }
+held-made b (totals n) i none = i
 
 pub held-call : (b : Bench) (c : Call) → Held b → Held (keeping b c .bench)
 held-call b c i = after-call Held b c i (held-made b c i)

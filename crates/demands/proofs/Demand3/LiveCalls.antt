@@ -1,6 +1,6 @@
 -- A call that names no lesson seat does to the bench without its lesson seats what it does to the bench.
 use Prim.Native.Nat.{ℕ, suc}
-use mathlib.Core.Path.{_≡_, refl, sym, subst}
+use mathlib.Core.Path.{_≡_, refl, ap, sym, subst}
 use mathlib.Core.Bool.{Bool, true, false}
 use mathlib.Core.List.{List, [], _∷_}
 use lib.Dec.{eqb}
@@ -11,7 +11,8 @@ use Rattle.record.specs.Record.{seatOf, seatNumbers, noSuchSeat, closedSeat, le
 use Rattle.air.specs.Air.{aired}
 use Rattle.seats.specs.Opening.{anyCoupling, openRefusals, openSaid, openedBench, seatRefusals, closeSaid, closedBench, seatVerdict}
 use Rattle.seats.specs.Radio.{sideRefusals, sideSaid}
-use Rattle.bench.specs.Step.{Call, opening, closing, side, Said, done, own, Outcome, outcome, does, step, keeping}
+use Rattle.hearing.specs.Account.{totalsSaid}
+use Rattle.bench.specs.Step.{Call, opening, closing, side, totals, Said, done, own, counts, Outcome, outcome, does, step, keeping}
 use Rattle.record.specs.declared.setup.Setup.{Setup}
 use Rattle.record.specs.declared.seat.Seat.{Seat}
 use Rattle.record.specs.declared.whole.Bench.{Bench}
@@ -20,7 +21,7 @@ use Rattle.demands.specs.Apart.{named, pttOf, liveAboveTest, fixed}
 use Rattle.demands.proofs.Demand3.Blanking.{blank, set-elsewhere}
 use Rattle.packet.proofs.Judged.{judged-both}
 use Rattle.record.proofs.Seats.{lesson-flag}
-use Rattle.demands.proofs.Demand3.WithoutLessons.{low, live-seat}
+use Rattle.demands.proofs.Demand3.WithoutLessons.{low, live-seat, seat-low}
 use Rattle.demands.proofs.Demand3.LessonSeats.{Meek, Held}
 
 -- what of the answer to a call is compared
@@ -81,6 +82,17 @@ match-closing b n live =
   where
     closed-low : noSuchSeat n ≡ false → closedBench (low b) n ≡ low (aired (closedBench b n))
     closed-low real = unfold closedBench low in simp (set-elsewhere closedSeat, lesson-flag (b .setup) n real, live)
+
+-- ---- totals, which are each seat's own
+
+pub match-totals : (b : Bench) (n : ℕ) → lesson (b .setup) n ≡ false → Match (b .setup) (totals n) (keeping b (totals n)) (step (low b) (totals n))
+unfolding does totalsSaid fixed
+match-totals b n live =
+    let same : seatOf (low b .seats) n ≡ seatOf (b .seats) n = seat-low b n live in
+    match-judged (b .setup) (totals n) b b (low b)
+    (seatRefusals n (seatOf (b .seats) n .opened)) (seatRefusals n (seatOf (low b .seats) n .opened)) (seatOf (b .seats) n .totals) (seatOf (low b .seats) n .totals) counts counts
+    (ap (λ (s : Seat). seatRefusals n (s .opened)) same)
+    (λ h. record { bench = refl; answer = ap (λ (s : Seat). accepted (counts (s .totals))) same })
 
 -- ---- the radio's own events
 

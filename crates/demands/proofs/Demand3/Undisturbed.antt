@@ -11,7 +11,7 @@ use Rattle.air.specs.Air.{benchAir}
 use Rattle.record.specs.Record.{seatNumbers, noSuchSeat, lesson, freshBench, settled}
 use Rattle.hearing.specs.Hearing.{packetSaid}
 use Rattle.reporting.specs.Reporting.{reportBytes, reportRefusals, reportSaid, reportedBench}
-use Rattle.bench.specs.Step.{Call, packet, tick, report, Said, done, own, heard, ticked, written, Outcome, told, does, keeping, after}
+use Rattle.bench.specs.Step.{Call, packet, tick, report, Said, done, own, heard, ticked, written, totalled, Outcome, told, does, keeping, after}
 use Rattle.record.specs.declared.setup.Setup.{Setup}
 use Rattle.record.specs.declared.whole.Bench.{Bench}
 use Rattle.demands.specs.Apart.{named, withoutLessons, pttOf, liveAboveTest, recordsSeen, fixed, compared, Apart}
@@ -99,6 +99,7 @@ record-whole setup c n live o up = rw up (by-answer _ (o .answer))
     by-answer isTest (accepted (heard missing reply standby sound)) = refl
     by-answer isTest (accepted (ticked closed due records)) = by-seat records (noSuchSeat n) refl
     by-answer isTest (accepted (written bytes)) = refl
+    by-answer isTest (accepted (totalled packets missing)) = refl
     by-answer isTest (refused k cause) = refl
 
 -- ---- no audio
@@ -111,6 +112,7 @@ none-sent (accepted (own id)) h = refl
 none-sent (accepted (heard missing reply standby sound)) h = h missing reply standby sound refl
 none-sent (accepted (ticked closed due records)) h = refl
 none-sent (accepted (written bytes)) h = refl
+none-sent (accepted (totalled packets missing)) h = refl
 none-sent (refused n cause) h = refl
 
 -- ---- the corollary

@@ -1,17 +1,21 @@
 -- What each call of the code answers and leaves is what `keeping` says: the promises and `keeping` cite the same definitions.
 use Prim.Native.Nat.{ℕ}
-use mathlib.Core.Path.{_≡_, refl, ap, ap₂, _∙_}
+use mathlib.Core.Path.{_≡_, refl, sym, ap, ap₂, _∙_}
 use mathlib.Core.List.{List}
 use denote.Ref.{now}
 use lib.ListN.{length, drop}
 use lib.Seq.{take-at}
-use Rattle.packet.specs.Refusals.{Answer, accepted, mapped}
+use Rattle.packet.specs.Refusals.{Answer, accepted, refused, mapped}
+use Rattle.record.specs.Record.{settled}
 use Rattle.writer.specs.Writing.{filled, writtenAnswer}
 use Rattle.seats.specs.Ticking.{silentSeats, dueSeats}
+use Rattle.hearing.specs.Account.{totalsSaid}
+use Rattle.hearing.specs.Answers.{totalsAnswer}
 use Rattle.hearing.specs.Hearing.{audioIn}
 use Rattle.reporting.specs.Reporting.{reportRefusals, reportSaid, reportBytes, reportBuffer}
 use Rattle.sending.specs.Sending.{tickRefusals, afterClosings, records, sentBytes, tickSaid, namedIn, tickSets, tickBuffer}
-use Rattle.bench.specs.Step.{Said, own, done, told, ticked, written, does}
+use Rattle.bench.specs.Step.{Said, own, done, told, ticked, written, totals, counts, does, keeping}
+use Rattle.hearing.specs.declared.account.TotalsAnswer.{TotalsAnswer}
 use Rattle.hearing.specs.declared.hearing.Hearing.{Hearing}
 use Rattle.record.specs.declared.whole.Bench.{Bench}
 use Rattle.demands.specs.StepOfCode.{did, wasDone, heardWith, inFront, readBack, sentIn, StepOfCode}
@@ -54,6 +58,15 @@ module _ (b : Bench) (ms timestamp : ℕ) (buffer : List ℕ) where
       (ap (readBack (dueSeats b ms)) (take-at sent (drop (length sent) buffer) (length sent) refl)
       ∙ read-back (afterClosings b ms) timestamp 1 (dueSeats b ms)))
 
+-- totals leave the bench, refused or not
+unmoved : {A : Type 0} (answer : Answer A) (b : Bench) → settled answer b b ≡ b
+unmoved (accepted a) b = refl
+unmoved (refused n cause) b = refl
+
+counted : (b : Bench) (n : ℕ) (r : TotalsAnswer) → totalsAnswer r ≡ totalsSaid b n → did (mapped counts (totalsAnswer r)) b ≡ keeping b (totals n)
+unfolding does
+counted b n r e = ap₂ did (ap (mapped counts) e) (sym (unmoved (totalsSaid b n) b))
+
 pub step-of-code : StepOfCode
 unfolding does
 step-of-code = record {
@@ -80,4 +93,5 @@ step-of-code = record {
   receives = λ k a r e p. ap (did (accepted done)) p;
   transmits = λ k a r e p. ap (did (accepted done)) p;
   sides = λ k a r e p. ap₂ did (ap (mapped wasDone) (p .0)) (p .1);
+  counts-up = λ k a r e p. counted (a .0) (a .1 .0) r p;
 }

@@ -15,7 +15,7 @@ use Rattle.hearing.specs.declared.hearing.Packeted.{Packeted}
 use Rattle.reporting.specs.declared.reporting.Reported.{Reported}
 use Rattle.demands.specs.Tight.{TightBase, TightPacket, TightItems, TightReader, TightWriter, TightRecord, TightSeats, TightAir, TightHearing, TightFraming, TightReporting, TightSending, TightText, TightWords, TightShow, TightGrammar, Tight}
 use Rattle.seats.proofs.TellApart.{open-tells, done-tells}
-use Rattle.hearing.proofs.TellApart.{packet-tells}
+use Rattle.hearing.proofs.TellApart.{packet-tells, totals-tells}
 
 -- the promise is an equation for the result
 meet : {A : Type 0} {x y z : A} → x ≡ z → y ≡ z → x ≡ y
@@ -140,6 +140,7 @@ pub tight-hearing : TightHearing
 tight-hearing = record {
   packet = λ k a r s d e p q. packeted-once (told packet-tells (p .0) (q .0)) (meet (p .1) (q .1));
   audio = λ k a r s d e p q. (meet (p .0) (q .0), same-place r s (p .1) (q .1));
+  totals = λ k a r s d e. told totals-tells;
 }
 
 pub tight-reporting : TightReporting

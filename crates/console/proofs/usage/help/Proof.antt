@@ -6,10 +6,10 @@ use Rattle.console.proofs.usage.help.Statement.{statement}
 use Rattle.console.proofs.usage.help.Tie as tie
 
 abbrev Inv-loop : tie.InvT-loop
-Inv-loop out₀ at₀ call₀ out at call = (call ≤ 14) × (length out ≡ length out₀)
+Inv-loop out₀ at₀ call₀ out at call = (call ≤ 15) × (length out ≡ length out₀)
 
 abbrev μ-loop : tie.MeasureT-loop
-μ-loop out₀ at₀ call₀ out at call = 14 - call
+μ-loop out₀ at₀ call₀ out at call = 15 - call
 
 usage-requires : tie.Need-usage-requires Inv-loop μ-loop
 usage-requires c κs = search needs

@@ -45,6 +45,9 @@ quality-requires c κs = search needs
 air-requires : tie.Need-air-requires
 air-requires c κs = search needs
 
+totals-requires : tie.Need-totals-requires
+totals-requires c κs = search needs
+
 help-requires : tie.Need-help-requires
 help-requires c κs = search needs
 
@@ -102,10 +105,14 @@ returns-13 c = simp (c .before .match .keys13) (c .air .ensures)
 
 returns-14 : tie.Need-returns-14
 unfolding saidWith
-returns-14 c = simp (c .before .match .keys14) (c .help .ensures)
+returns-14 c = simp (c .before .match .keys14) (c .totals .ensures)
 
 returns-15 : tie.Need-returns-15
-returns-15 c = ap orWrong (no-call _ _ _ (c .match .rest))
+unfolding saidWith
+returns-15 c = simp (c .before .match .keys15) (c .help .ensures)
+
+returns-16 : tie.Need-returns-16
+returns-16 c = ap orWrong (no-call _ _ _ (c .match .rest))
 
 pub said-spec : {M : Type 1} → statement M
 said-spec =
@@ -124,6 +131,7 @@ said-spec =
     write-requires
     quality-requires
     air-requires
+    totals-requires
     help-requires
     returns
     returns-2
@@ -139,4 +147,5 @@ said-spec =
     returns-12
     returns-13
     returns-14
-    returns-15)
+    returns-15
+    returns-16)

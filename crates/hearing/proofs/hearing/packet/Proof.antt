@@ -1,7 +1,7 @@
 use mathlib.Core.Path.{refl, ap, sym, _∙_}
 use Rattle.packet.specs.Refusals.{accepted}
 use Rattle.air.specs.Air.{aired}
-use Rattle.hearing.proofs.PacketSteps.{packet-refused, packet-said, says, taken, seen, is-whole, hearing-told}
+use Rattle.hearing.proofs.PacketSteps.{packet-refused, packet-said, says, taken, seen, total-passed, is-whole, hearing-told}
 use borrow.Author.Needs.{needs}
 use Rattle.hearing.proofs.hearing.packet.Statement.{statement}
 use Rattle.hearing.proofs.hearing.packet.Tie as tie
@@ -28,7 +28,7 @@ heard-bench-requires : tie.Need-heard-bench-requires
 heard-bench-requires c κs =
     let m = c .before in
     let a = m .before .before .before .before .before .before .before .args in
-    (taken (a .t1) (a .n) (a .p .now) _ _ (m .before .before .before .before .place .ensures .0) refl _ (m .before .before .admitted .ensures) (m .told2 .given .1) .is-seat, seen (a .t1) (a .n) (a .p .now) _ _ (m .before .before .before .before .place .ensures .0) refl _ (m .before .before .admitted .ensures) (m .told2 .given .1))
+    (taken (a .t1) (a .n) (a .p .now) _ _ (m .before .before .before .before .place .ensures .0) refl _ (m .before .before .admitted .ensures) (m .told2 .given .1) .is-seat, seen (a .t1) (a .n) (a .p .now) _ _ (m .before .before .before .before .place .ensures .0) refl _ (m .before .before .admitted .ensures) (m .told2 .given .1), total-passed (a .t1) (a .n) (a .p .now) _ _ (m .before .before .before .before .place .ensures .0) refl _ (m .before .before .admitted .ensures) (m .told2 .given .1))
 
 aired-requires : tie.Need-aired-requires
 aired-requires c κs = search needs
@@ -45,8 +45,8 @@ field-heard-requires c κs = search needs
 same-field-requires : tie.Need-same-field-requires
 same-field-requires c κs = search needs
 
-missing-requires : tie.Need-missing-requires
-missing-requires c κs = search needs
+missing-before-requires : tie.Need-missing-before-requires
+missing-before-requires c κs = search needs
 
 sent-at-requires : tie.Need-sent-at-requires
 sent-at-requires c κs =
@@ -74,7 +74,7 @@ returns-2 c =
     let said = packet-said (a .t1) (a .n) (a .p .now) _ _ (m .before .before .before .before .place .ensures .0) refl _ (m .before .before .admitted .ensures) (m .told2 .given .1) in
     let is = says (a .t1) (a .n) (a .p .now) _ _ (m .before .before .before .before .place .ensures .0) refl _ (m .before .before .admitted .ensures) (m .told2 .given .1) in
     let left = c .before .before .before .before .before .before .before .before .aired .ensures ∙ ap aired (c .before .before .before .before .before .before .before .before .before .heard-bench .ensures) in
-    let told = hearing-told (a .t1) (a .n) (a .p .now) (seen (a .t1) (a .n) (a .p .now) _ _ (m .before .before .before .before .place .ensures .0) refl _ (m .before .before .admitted .ensures) (m .told2 .given .1)) is left (c .before .before .before .before .before .before .before .on-air .ensures) (c .before .before .before .before .field-heard .ensures) (c .before .before .before .same-field .ensures) (c .before .before .missing .ensures) (c .before .sent-at .ensures) (c .sent-length .ensures) in
+    let told = hearing-told (a .t1) (a .n) (a .p .now) (seen (a .t1) (a .n) (a .p .now) _ _ (m .before .before .before .before .place .ensures .0) refl _ (m .before .before .admitted .ensures) (m .told2 .given .1)) is left (c .before .before .before .before .before .before .before .on-air .ensures) (c .before .before .before .before .field-heard .ensures) (c .before .before .before .same-field .ensures) (c .before .before .missing-before .ensures) (c .before .sent-at .ensures) (c .sent-length .ensures) in
     (ap accepted told ∙ sym said, simp (left, said, is))
 
 pub packet-spec : {M : Type 1} → statement M
@@ -92,7 +92,7 @@ packet-spec =
     on-air-requires
     field-heard-requires
     same-field-requires
-    missing-requires
+    missing-before-requires
     sent-at-requires
     sent-length-requires
     returns

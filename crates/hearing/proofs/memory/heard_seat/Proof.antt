@@ -16,10 +16,13 @@ mul-after c = search recordCases
 field-heard-requires : tie.Need-field-heard-requires
 field-heard-requires c κs = search needs
 
+totals-after-requires : tie.Need-totals-after-requires
+totals-after-requires c κs = search needs
+
 returns : tie.Need-returns
 unfolding heardSeat
-returns c = simp (c .field-heard .ensures)
+returns c = simp (c .before .field-heard .ensures, c .totals-after .ensures)
 
 pub heard-seat-spec : {M : Type 1} → statement M
 heard-seat-spec =
-    tie.close (tie.spec cast-after cast-after-2 mul-after field-heard-requires returns)
+    tie.close (tie.spec cast-after cast-after-2 mul-after field-heard-requires totals-after-requires returns)
