@@ -50,6 +50,8 @@ abbrev pub seatAfterRun : (n : ℕ) → Setup → (run : List Call) → Seat
 seatAfterRun n setup run = seatOf (after keeping (freshBench setup) run .seats) n
 
 pub record Accounts : Type 0 where
+  -- numbers that wrap: 1, and then the distances 1, 1 and 3
+  pub for-instance : account (65534 ∷ 65535 ∷ 0 ∷ 3 ∷ []) ≡ pos 6
   -- of every seat that is open after the calls
   pub heard-and-missing : (setup : Setup) (run : List Call) (n : ℕ) → let s = seatAfterRun n setup run in
       s .opened ≡ true → pos (s .totals .heard + s .totals .missing) ≡ account (historyOf n setup run)

@@ -15,8 +15,9 @@ use Rattle.bench.specs.Step.{Call, opening, closing, packet, tick, report, rece
 use Rattle.record.specs.declared.whole.Bench.{Bench}
 use Rattle.demands.specs.Exact.{Exact}
 
--- "Packet 13, 14, 1 to 12, 19 to 23 [then 02's 33]. Open 13, 15 to 18. Close 13, 14. Report 13, 14, 25, 26. .. Side event 23; the
--- other events are never refused." And of a tick with its reports 02: "24, then 26".
+-- "Packet 13, 14, 1 to 12, 19 to 23. Open 13, 15 to 18. Close 13, 14. Report 13, 14, 25, 26. .. Side event 23; the
+-- other events are never refused." And 02, of a tick with its reports: "24, then 26"; of a packet: "33, after
+-- 23". Totals are refused as closing is.
 abbrev pub refusalsOf : Bench → Call → List Case
 refusalsOf b (opening n r) = openRefusals (b .setup) n (b .seats) r
 refusalsOf b (closing n) = seatRefusals n (seatOf (b .seats) n .opened)

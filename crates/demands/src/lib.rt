@@ -5,5 +5,6 @@
 // The bench: Kept, what it keeps through every call; AirKept, that its air is right in the record, and AnswersStay, that this changes no
 // answer; SeatAfter, what one call does to one seat; TicksAddUp, that ticks may be merged; OneDifference, what then is not told;
 // AsSingles, that a tick with its reports is a tick and single reports; Room, that 208 bytes are always enough for it.
-// Of a radio whose main and standby share an address: SharedRadio.
+// Of a radio whose main and standby share an address: SharedRadio. Of packets counted: Accounts, that a seat's totals are what its
+// history says; TotalsBound, where 33 comes. DueAtLeastOnce, that a seat which stays open is due within its period.
 // The code: StepOfCode and BothWays, its calls, readers and writers do as said; Tight, its promises leave one answer.

@@ -84,7 +84,7 @@ sideBarred isLesson kind m = itemBarred kind (m .side) || (isLesson && hasSide (
 abbrev pub messageIn : List ℕ → Tx
 messageIn p = asTx (messageOf p)
 
--- 19 to 23, of a message that was read, and 02's 33, "after 23, if heard plus missing would pass 4,000,000,000".
+-- 19 to 23, of a message that was read; 02, request 14: "33, after 23, if heard plus missing would pass 4,000,000,000"
 unfoldable pub messageRefusals : Setup → (n : ℕ) → Seat → Tx → List Case
 messageRefusals setup n s m =
     19 if otherSsrc (s .heard .any) (s .heard .ssrc) (m .ssrc)
@@ -95,7 +95,7 @@ messageRefusals setup n s m =
     ∷ 33 if totalTooLarge (totalsAfter s m)
     ∷ []
 
--- "Packet 13, 14, 1 to 12, 19 to 23", then 33.
+-- "Packet 13, 14, 1 to 12, 19 to 23." (And 33.)
 unfoldable pub packetRefusals : Setup → (n : ℕ) → Seat → List ℕ → List Case
 packetRefusals setup n s p =
     seatRefusals n (s .opened) ++ readerRefusals direction.Tx (setup .ext) p ++ messageRefusals setup n s (messageIn p)

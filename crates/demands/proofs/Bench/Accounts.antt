@@ -8,7 +8,7 @@ use lib.Dec.{eqb}
 use lib.IntN.{ℤ, pos, _+ℤ_, +ℤ-idl, +ℤ-idr, +ℤ-assoc}
 use lib.ListN.{length, length-append}
 use borrow.Author.Tests.{eqb-true}
-use Rattle.base.specs.Order.{distance, late, missing}
+use Rattle.base.specs.Order.{centred, distance, late, missing}
 use Rattle.base.proofs.OrderLaws.{missing-is}
 use Rattle.packet.specs.Refusals.{NoCase, Answer, accepted, refused}
 use Rattle.packet.specs.declared.message.Tx.{Tx}
@@ -202,8 +202,10 @@ module _ (setup : Setup) (run : List Call) (n : ℕ) where
       (cc (sums .total, is-heard, is-missing), cc (sums .many, is-heard))
 
 pub accounts : Accounts
+unfolding centred distance distances account
 accounts =
     record {
+      for-instance = refl;
       heard-and-missing = λ setup run n up. its-sums setup run n up .total;
       heard-alone = λ setup run n up. its-sums setup run n up .many;
       told = told;
