@@ -95,4 +95,4 @@ pub record StepOfCode : Type 1 where
   pub sides : Gives seats.side.Reads.Learnt
       (λ k (b, (standby, end)) r e. did (mapped wasDone (doneAnswer (r .answer))) (r .bench) ≡ keeping b (side standby))
   -- the bench is not given back: it is as it was
-  pub counts-up : Gives hearing.totals.Reads.Learnt (λ k (b, (n, end)) r e. did (mapped counts (totalsAnswer r)) b ≡ keeping b (totals n))
+  pub tells-totals : Gives hearing.totals.Reads.Learnt (λ k (b, (n, end)) r e. did (mapped counts (totalsAnswer r)) b ≡ keeping b (totals n))

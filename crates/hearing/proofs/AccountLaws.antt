@@ -19,15 +19,15 @@ use Rattle.record.specs.declared.whole.Bench.{Bench}
 use Rattle.hearing.specs.Account.{missingBefore, mostCounted, totalsAfter, totalTooLarge, totalsSaid}
 
 module _ (s : Seat) (m : Tx) (passed : totalTooLarge (totalsAfter s m) ≡ false) where
-  pub total-fits : s .totals .heard + 1 + (s .totals .missing + missingBefore (s .heard) m) ≤ mostCounted
+  within-most : s .totals .heard + 1 + (s .totals .missing + missingBefore (s .heard) m) ≤ mostCounted
   unfolding totalTooLarge totalsAfter
-  total-fits = ltb-false _ _ passed
+  within-most = ltb-false _ _ passed
 
   pub heard-fits : Fits w32 (s .totals .heard + 1)
-  heard-fits = record { fits = omega (arith, total-fits) }
+  heard-fits = record { fits = omega (arith, within-most) }
 
   pub missing-fits : Fits w32 (s .totals .missing + missingBefore (s .heard) m)
-  missing-fits = record { fits = omega (arith, total-fits) }
+  missing-fits = record { fits = omega (arith, within-most) }
 
 module _ (b : Bench) (n : ℕ) (s : Seat) (v : Verdict) (seat : s ≡ seatOf (b .seats) n) (e : verdictOf v ≡ seatVerdict n (s .opened)) where
   decided : totalsSaid b n ≡ mapped (λ (u : Unit {0}). s .totals) (verdictOf v)

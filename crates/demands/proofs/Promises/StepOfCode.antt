@@ -93,5 +93,5 @@ step-of-code = record {
   receives = λ k a r e p. ap (did (accepted done)) p;
   transmits = λ k a r e p. ap (did (accepted done)) p;
   sides = λ k a r e p. ap₂ did (ap (mapped wasDone) (p .0)) (p .1);
-  counts-up = λ k a r e p. counted (a .0) (a .1 .0) r p;
+  tells-totals = λ k a r e p. counted (a .0) (a .1 .0) r p;
 }
