@@ -57,6 +57,16 @@ def wraps(s):
     s.totals(3, 2, 32766)
 
 
+def begins_anew(s, seat, about=None, **first):
+    """A seat that is opened again: 0 and 0, and its first packet counts 1."""
+    s.open(str(seat))
+    s.totals(seat, 0, 0)
+    if about:
+        s.note(about)
+    s.packet(seat, "missing=0", **first)
+    s.totals(seat, 1, 0)
+
+
 def reopened(s):
     s.session(f"{TITLE}: since opening: closed by its switch, and by silence")
     s.open("4")
@@ -68,21 +78,14 @@ def reopened(s):
     s.totals(4, 2, 4)
     s.say("close 4", "ok")
     s.say("totals 4", "refused 14 cause 0")
-    s.open("4")
-    s.totals(4, 0, 0)
-    s.note("its first packet again, of another source and with a lower number")
-    s.packet(4, "missing=0", sequence=3, ssrc=77)
-    s.totals(4, 1, 0)
+    begins_anew(s, 4, "its first packet again, of another source and with a lower number", sequence=3, ssrc=77)
     s.packet(4, "missing=6", sequence=10, ssrc=77)
     s.totals(4, 2, 6)
     s.tick(1000, due="4")
     s.totals(4, 2, 6)
     s.tick(1000, closed="4")
     s.say("totals 4", "refused 14 cause 0")
-    s.open("4")
-    s.totals(4, 0, 0)
-    s.packet(4, "missing=0", sequence=11)
-    s.totals(4, 1, 0)
+    begins_anew(s, 4, sequence=11)
 
 
 def no_seat(s):
@@ -150,10 +153,7 @@ def to_the_bound(s):
     s.totals(6, 122_076, 3_999_877_924)
     s.say("report 6 0 - 20", "ok len=20")
     s.say("close 6", "ok")
-    s.open("6")
-    s.totals(6, 0, 0)
-    s.packet(6, "missing=0", sequence=9)
-    s.totals(6, 1, 0)
+    begins_anew(s, 6, sequence=9)
 
 
 def totals(s):
