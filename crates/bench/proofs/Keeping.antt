@@ -34,7 +34,7 @@ pub refused-keeps : (b : Bench) (c : Call) (k cause : ℕ) → keeping b c .answ
 unfolding does
 refused-keeps b (opening n r) k cause e = simp (was-refused (openSaid b n r) own k cause e)
 refused-keeps b (closing n) k cause e = simp (was-refused (closeSaid b n) (λ u. done) k cause e)
-refused-keeps b (packet n p) k cause e = simp (was-refused (packetSaid b n p) (told (packetSaid b n p) p) k cause e)
+refused-keeps b (packet n p) k cause e = simp (was-refused (packetSaid b n p) (told p) k cause e)
 refused-keeps b (tick ms timestamp room) k cause e = simp (was-refused (tickSaid b ms timestamp room) _ k cause e)
 refused-keeps b (report n timestamp sound room) k cause e = simp (was-refused (reportSaid b n timestamp sound room) _ k cause e)
 refused-keeps b (received signals level) k cause e = absurd (never done k cause e)
@@ -62,7 +62,7 @@ module _ (shown kept f : Bench → Bench) (b : Bench) (air : Air) (sees : shown 
   but-for-air (closing n) = unfold closeSaid closedBench in settles (closeSaid b n) (λ u. done) (closedBench b n) (keeps _)
   but-for-air (packet n p) =
       unfold packetSaid heardBench hearing isSent in
-      settles (packetSaid b n p) (told (packetSaid b n p) p) (heardBench b n (messageIn p)) (keeps _)
+      settles (packetSaid b n p) (told p) (heardBench b n (messageIn p)) (keeps _)
   but-for-air (tick ms timestamp room) =
       unfold tickSaid sentBytes records tickedBench sentBench in
       settles (tickSaid b ms timestamp room) (λ used. ticked (silentSeats b ms) (dueSeats b ms) (records b ms timestamp)) (sentBench b ms) (keeps _)

@@ -33,7 +33,7 @@ pub data Call : Type 0 where
 pub data Said : Type 0 where
   done : Said
   own : (id : ℕ) → Said
-  heard : (missing : ℕ) (reply standby : Bool) (audio : List ℕ) → Said
+  heard : Hearing → (audio : List ℕ) → Said
   ticked : (closed due : List Bool) (records : List (List ℕ)) → Said
   written : (bytes : List ℕ) → Said
   totalled : (heard missing : ℕ) → Said
@@ -45,8 +45,9 @@ pub record Outcome : Type 0 where
 abbrev pub outcome : {A : Type 0} → Answer A → (A → Said) → (before after : Bench) → Outcome
 outcome answer tell before after = record { answer = mapped tell answer; bench = settled answer before after }
 
-abbrev pub told : Answer Hearing → List ℕ → Hearing → Said
-told answer p h = heard (h .missing) (h .reply) (h .standby) (audioIn answer p)
+-- all of what a packet answers, and its audio
+abbrev pub told : (bytes : List ℕ) → Hearing → Said
+told p h = heard h (audioIn (accepted h) p)
 
 abbrev pub counts : Totals → Said
 counts t = totalled (t .heard) (t .missing)
@@ -60,7 +61,7 @@ Machine = Bench → Call → Outcome
 unfoldable pub does : (shown kept : Bench → Bench) → Machine
 does shown kept b (opening n r) = outcome (openSaid b n r) own b (kept (openedBench b n r))
 does shown kept b (closing n) = outcome (closeSaid b n) (λ u. done) b (kept (closedBench b n))
-does shown kept b (packet n p) = outcome (packetSaid b n p) (told (packetSaid b n p) p) b (kept (heardBench b n (messageIn p)))
+does shown kept b (packet n p) = outcome (packetSaid b n p) (told p) b (kept (heardBench b n (messageIn p)))
 does shown kept b (tick ms timestamp room) =
     outcome (tickSaid b ms timestamp room) (λ used. ticked (silentSeats b ms) (dueSeats b ms) (records b ms timestamp)) b (kept (sentBench b ms))
 does shown kept b (report n timestamp sound room) =

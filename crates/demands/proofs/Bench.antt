@@ -6,6 +6,7 @@ pub mod KeptSeats
 pub mod Kept
 pub mod KeptLaws
 pub mod AirKept
+pub mod AudioSent
 pub mod AnswersStay
 pub mod TicksAddUp
 pub mod AsSingles

@@ -6,6 +6,7 @@ pub mod LessonSeats
 pub mod LessonCalls
 pub mod Blotted
 pub mod BenchAir
+pub mod LiveOnAir
 pub mod SentAudio
 pub mod LiveCalls
 pub mod LiveReports

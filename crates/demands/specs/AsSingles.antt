@@ -22,7 +22,7 @@ singles timestamp room n (false ∷ ds) = singles timestamp room (suc n) ds
 unfoldable pub frameOf : Answer Said → List ℕ
 frameOf (accepted done) = []
 frameOf (accepted (own id)) = []
-frameOf (accepted (heard missing reply standby sound)) = []
+frameOf (accepted (heard h sound)) = []
 frameOf (accepted (ticked closed due records)) = []
 frameOf (accepted (written bytes)) = framed bytes
 frameOf (accepted (totalled packets missing)) = []

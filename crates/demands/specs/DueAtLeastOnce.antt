@@ -40,7 +40,7 @@ summed (c ∷ cs) = elapsed c + summed cs
 unfoldable pub namesDue : (n : ℕ) → Answer Said → Bool
 namesDue n (accepted done) = false
 namesDue n (accepted (own id)) = false
-namesDue n (accepted (heard missing reply standby sound)) = false
+namesDue n (accepted (heard h sound)) = false
 namesDue n (accepted (ticked closed due records)) = isIn due n
 namesDue n (accepted (written bytes)) = false
 namesDue n (accepted (totalled packets missing)) = false

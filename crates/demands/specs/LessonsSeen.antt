@@ -74,6 +74,13 @@ withoutLesson = enters 1 ∷ []
 abbrev pub lessonFirst : List Call
 lessonFirst = enters 1 ∷ enters 8 ∷ keys 8 test 1 ∷ keys 1 normal 1 ∷ []
 
+-- what a packet with audio answers while main is in use: sent, or not
+abbrev pub sounds : (missing : ℕ) (reply : Bool) → Answer Said
+sounds missing reply = accepted (heard (record { missing = missing; reply = reply; standby = false; sent = true }) voice)
+
+abbrev pub silent : (missing : ℕ) (reply : Bool) → Answer Said
+silent missing reply = accepted (heard (record { missing = missing; reply = reply; standby = false; sent = false }) [])
+
 abbrev pub answer : List Call → Call → Answer Said
 answer run c = keeping (after keeping (freshBench lab) run) c .answer
 
@@ -86,10 +93,10 @@ pub record LessonsSeen : Type 0 where
   pub unseen : answer withoutLesson (asked 1) ≡ accepted (written (around (0x00 ∷ 0x00 ∷ 0x00 ∷ 0x00 ∷ [])))
   pub seen-ptts : answer (enters 1 ∷ enters 8 ∷ keysPtts 8 test 1 ∷ []) (asked 1) ≡ accepted (written (around (0xA2 ∷ 0x10 ∷ 0x00 ∷ 0x00 ∷ [])))
   -- ".. and its audio sent": live seat 1 keys Test and is locked out, or sent
-  pub locked-out : answer withLesson (keys 1 test 1) ≡ accepted (heard 0 true false [])
-  pub let-through : answer withoutLesson (keys 1 test 1) ≡ accepted (heard 0 true false voice)
+  pub locked-out : answer withLesson (keys 1 test 1) ≡ silent 0 true
+  pub let-through : answer withoutLesson (keys 1 test 1) ≡ sounds 0 true
   -- live seat 1 keys Normal: it is sent, the lesson seat that was on the air is no more, and 1 is told Normal, id 1
-  pub wins : answer withLesson (keys 1 normal 1) ≡ accepted (heard 0 true false voice)
+  pub wins : answer withLesson (keys 1 normal 1) ≡ sounds 0 true
   pub above : liveAboveTest (after keeping (freshBench lab) lessonFirst) seatNumbers ≡ true
-  pub silenced : answer lessonFirst (keys 8 test 2) ≡ accepted (heard 0 false false [])
+  pub silenced : answer lessonFirst (keys 8 test 2) ≡ silent 0 false
   pub is-told : answer lessonFirst (asked 1) ≡ accepted (written (around (0x20 ∷ 0x40 ∷ 0x00 ∷ 0x00 ∷ [])))

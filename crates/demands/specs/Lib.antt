@@ -13,6 +13,7 @@ pub mod Steps
 pub mod SeatAfter
 pub mod Kept
 pub mod AirKept
+pub mod AudioSent
 pub mod AnswersStay
 pub mod TicksAddUp
 pub mod AsSingles

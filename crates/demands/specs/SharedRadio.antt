@@ -20,6 +20,7 @@ use Rattle.record.specs.declared.kind.Kind.{Kind}
 use Rattle.record.specs.declared.kind.Kind.the-variants.{Shared}
 use Rattle.record.specs.declared.setup.Setup.{Setup}
 use Rattle.record.specs.declared.whole.Bench.{Bench}
+use Rattle.hearing.specs.declared.hearing.Hearing.{Hearing}
 use Rattle.demands.specs.AirKept.{AirRight}
 use Rattle.demands.specs.RoundTrip.{Narrow}
 
@@ -53,11 +54,11 @@ pub record SharedRadio : Type 0 where
   -- and that event is never refused
   pub event-accepted : (b : Bench) (standby : Bool) → IsShared b → keeping b (side standby) ≡ record { answer = accepted done; bench = aired (withSide b standby) }
   -- an accepted packet answers the side really in use, which it leaves as it was
-  pub side-answered : (b : Bench) (n : ℕ) (p : List ℕ) (missing : ℕ) (reply standby : Bool) (sound : List ℕ) → IsShared b
-      → keeping b (packet n p) .answer ≡ accepted (heard missing reply standby sound) → standby ≡ b .standby
+  pub side-answered : (b : Bench) (n : ℕ) (p : List ℕ) (h : Hearing) (sound : List ℕ) → IsShared b
+      → keeping b (packet n p) .answer ≡ accepted (heard h sound) → h .standby ≡ b .standby
   -- and an item of 0 is a value that can differ, as on a pair: "Reply now" where the packet before it had none (of any item, on every kind)
-  pub zero-differs : (b : Bench) (n : ℕ) (p : List ℕ) (missing : ℕ) (reply standby : Bool) (sound : List ℕ) → seatOf (b .seats) n .heard .field .sided ≡ false
-      → hasSide (messageIn p .side) ≡ true → keeping b (packet n p) .answer ≡ accepted (heard missing reply standby sound) → reply ≡ true
+  pub zero-differs : (b : Bench) (n : ℕ) (p : List ℕ) (h : Hearing) (sound : List ℕ) → seatOf (b .seats) n .heard .field .sided ≡ false
+      → hasSide (messageIn p .side) ≡ true → keeping b (packet n p) .answer ≡ accepted (heard h sound) → h .reply ≡ true
   -- "23 also for an item of 1 here": no packet with one is accepted, and of a live seat no other is refused with 23
   pub one-refused : (b : Bench) (n : ℕ) (p : List ℕ) (said : Said) → IsShared b
       → keeping b (packet n p) .answer ≡ accepted said → isStandby (messageIn p .side) ≡ false

@@ -17,10 +17,9 @@ use Rattle.hearing.specs.Hearing.{audioIn}
 use Rattle.reporting.specs.Reporting.{reportBuffer}
 use Rattle.sending.specs.Sending.{tickSets, tickBuffer}
 use Rattle.hearing.specs.Answers.{packetAnswer, totalsAnswer}
-use Rattle.bench.specs.Step.{opening, closing, packet, tick, report, received, transmitter, side, totals, Said, done, own, heard, ticked, written, counts, Outcome, keeping}
+use Rattle.bench.specs.Step.{opening, closing, packet, tick, report, received, transmitter, side, totals, Said, done, own, told, ticked, written, counts, Outcome, keeping}
 use Rattle.record.specs.declared.whole.Bench.{Bench}
 use Rattle.sending.specs.declared.sending.SeatSets.{SeatSets}
-use Rattle.hearing.specs.declared.hearing.Hearing.{Hearing}
 use Rattle.reader.proofs as reader
 use Rattle.writer.proofs as writer
 use Rattle.record.proofs as the-record
@@ -40,9 +39,6 @@ did answer bench = record { answer = answer; bench = bench }
 -- what it told, where it was not refused
 abbrev pub wasDone : Unit {0} → Said
 wasDone u = done
-
-abbrev pub heardWith : (sound : List ℕ) → Hearing → Said
-heardWith sound h = heard (h .missing) (h .reply) (h .standby) sound
 
 -- a report is the front of the buffer that was lent, as long as the answer says
 abbrev pub inFront : (left : List ℕ) → (long : ℕ) → Said
@@ -76,7 +72,7 @@ pub record StepOfCode : Type 1 where
       (λ k (b, (n, end)) r e. did (mapped wasDone (doneAnswer (r .answer))) (r .bench) ≡ keeping b (closing n))
   -- with the audio that `audio` hands out for its answer
   pub hears : Gives hearing.packet.Reads.Learnt (λ k (b, (n, (p, end))) r e.
-      did (mapped (heardWith (audioIn (packetAnswer (r .answer)) (now p))) (packetAnswer (r .answer))) (r .bench) ≡ keeping b (packet n (now p)))
+      did (mapped (told (now p)) (packetAnswer (r .answer))) (r .bench) ≡ keeping b (packet n (now p)))
   pub hands-out : Gives hearing.audio.Reads.Learnt (λ k (answer, (p, end)) sound e. now sound ≡ audioIn (packetAnswer answer) (now p))
   pub ticks : Gives sending.tick.Reads.Learnt (λ k (b, (ms, (timestamp, (out, end)))) r e.
       did (mapped (sentIn (r .seats) (now (e .1 .1 .1 .0))) (writtenAnswer (r .answer))) (r .bench) ≡ keeping b (tick ms timestamp (length (now out))))

@@ -11,11 +11,11 @@ use Rattle.packet.specs.declared.message.SideItem.the-variants as item
 use Rattle.record.specs.Record.{freshBench, withSeat}
 use Rattle.seats.specs.Opening.{callCode}
 use Rattle.hearing.specs.Hearing.{heardOf}
-use Rattle.bench.specs.Step.{Call, packet, totals, Said, heard, totalled, keeping, after}
+use Rattle.bench.specs.Step.{Call, packet, totals, Said, totalled, keeping}
 use Rattle.record.specs.declared.seat.Seat.{Seat}
 use Rattle.record.specs.declared.whole.Bench.{Bench}
 use Rattle.seats.specs.declared.opening.CallType.the-variants.{TxRx}
-use Rattle.demands.specs.LessonsSeen.{lab, voice, keying, keys}
+use Rattle.demands.specs.LessonsSeen.{lab, voice, keying, keys, sounds}
 
 -- seat 1, whose last packet had the number 1
 abbrev pub counting : (packets missing : ℕ) → Seat
@@ -48,14 +48,14 @@ answerOn b c = keeping b c .answer
 
 pub record TotalsBound : Type 0 where
   -- 3,999,999,999 so far: the next packet brings 4,000,000,000 and passes,
-  pub reaches : answerOn (stands 1000000000 2999999999) (keys 1 normal 2) ≡ accepted (heard 0 false false voice)
+  pub reaches : answerOn (stands 1000000000 2999999999) (keys 1 normal 2) ≡ sounds 0 false
   pub reached : answerOn (keeping (stands 1000000000 2999999999) (keys 1 normal 2) .bench) (totals 1) ≡ accepted (totalled 1000000001 2999999999)
   -- the next but one brings 4,000,000,001 and is refused,
   pub passes : answerOn (stands 1000000000 2999999999) (keys 1 normal 3) ≡ refused 33 0
   -- and so is the next one from 4,000,000,000 on
   pub passes-next : answerOn (keeping (stands 1000000000 2999999999) (keys 1 normal 2) .bench) (keys 1 normal 3) ≡ refused 33 0
   -- by the largest distance, from both sides
-  pub leaps : answerOn (stands 1 3999967232) (keys 1 normal 32768) ≡ accepted (heard 32766 false false voice)
+  pub leaps : answerOn (stands 1 3999967232) (keys 1 normal 32768) ≡ sounds 32766 false
   pub leaps-past : answerOn (stands 1 3999967233) (keys 1 normal 32768) ≡ refused 33 0
   -- "after 23": where both hold, 23
   pub side-first : answerOn (stands 1000000000 2999999999) (asksSide 3) ≡ refused 23 0

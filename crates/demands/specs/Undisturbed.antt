@@ -12,22 +12,13 @@ use Rattle.air.specs.Air.{benchAir}
 use Rattle.bench.specs.Step.{Call, packet, tick, report, Said, done, own, heard, ticked, written, totalled, keeping, after}
 use Rattle.record.specs.declared.setup.Setup.{Setup}
 use Rattle.record.specs.declared.whole.Bench.{Bench}
-use Rattle.demands.specs.Apart.{withoutLessons, liveAboveTest}
-
-unfoldable pub audioSent : Answer Said → List ℕ
-audioSent (accepted done) = []
-audioSent (accepted (own id)) = []
-audioSent (accepted (heard missing reply standby sound)) = sound
-audioSent (accepted (ticked closed due records)) = []
-audioSent (accepted (written bytes)) = []
-audioSent (accepted (totalled packets missing)) = []
-audioSent (refused n cause) = []
+use Rattle.demands.specs.Apart.{withoutLessons, liveAboveTest, audioSent}
 
 -- the record of seat n in the answer to a tick
 unfoldable pub recordTo : (n : ℕ) → Answer Said → List ℕ
 recordTo n (accepted done) = []
 recordTo n (accepted (own id)) = []
-recordTo n (accepted (heard missing reply standby sound)) = []
+recordTo n (accepted (heard h sound)) = []
 recordTo n (accepted (ticked closed due records)) = cond (noSuchSeat n) [] (getD records (n - 1) [])
 recordTo n (accepted (written bytes)) = []
 recordTo n (accepted (totalled packets missing)) = []

@@ -13,7 +13,7 @@ use Rattle.bench.specs.Step.{Call, opening, closing, packet, tick, report, rece
 use Rattle.record.specs.declared.setup.Setup.{Setup}
 use Rattle.record.specs.declared.whole.Bench.{Bench}
 use Rattle.demands.specs.Apart.{withoutLessons, pttOf, Apart}
-use Rattle.demands.specs.LessonsSeen.{lab, enters, voice, keys, asked, quietReport, answer}
+use Rattle.demands.specs.LessonsSeen.{lab, enters, keys, asked, quietReport, sounds, silent, answer}
 
 -- "For every input each public function's promise leaves one possible answer, one next state": those of keeping.
 abbrev pub Keeps : Machine → Type 0
@@ -40,7 +40,7 @@ pub data WrongBench : Type 0 where
 abbrev pub withBytes : List ℕ → Said → Said
 withBytes other done = done
 withBytes other (own id) = own id
-withBytes other (heard missing reply standby sound) = heard missing reply standby sound
+withBytes other (heard h sound) = heard h sound
 withBytes other (ticked closed due records) = ticked closed due (map (λ d. cond d other []) due)
 withBytes other (written bytes) = written other
 withBytes other (totalled packets missing) = totalled packets missing
@@ -48,7 +48,7 @@ withBytes other (totalled packets missing) = totalled packets missing
 abbrev pub withCount : ℕ → Said → Said
 withCount count done = done
 withCount count (own id) = own id
-withCount count (heard missing reply standby sound) = heard count reply standby sound
+withCount count (heard h sound) = heard (record { missing = count; reply = h .reply; standby = h .standby; sent = h .sent }) sound
 withCount count (ticked closed due records) = ticked closed due records
 withCount count (written bytes) = written bytes
 withCount count (totalled packets missing) = totalled packets missing
@@ -71,7 +71,7 @@ isLater b (totals n) = false
 
 -- nothing missing, no reply, no audio, and nothing changes
 abbrev pub nod : Bench → Outcome
-nod b = record { answer = accepted (heard 0 false (b .standby) []); bench = b }
+nod b = record { answer = accepted (heard (record { missing = 0; reply = false; standby = b .standby; sent = false }) []); bench = b }
 
 abbrev pub wrong : WrongBench → Machine
 wrong (refusing number cause) b c = record { answer = refused (number b c) (cause b c); bench = b }
@@ -105,9 +105,9 @@ pub record Tried : Type 0 where
   pub releases : pttOf (keeping (labAfter spoken) (keys 1 off 2) .bench) 1 ≡ off
   pub nod-releases-not : pttOf (wrong nodding (labAfter spoken) (keys 1 off 2) .bench) 1 ≡ normal
   pub not-twice : answer spoken (keys 1 normal 1) ≡ refused 20 0
-  pub nod-twice : wrong nodding (labAfter spoken) (keys 1 normal 1) .answer ≡ accepted (heard 0 false false [])
-  pub none-missing : answer entered (keys 1 normal 1) ≡ accepted (heard 0 true false voice)
-  pub one-missing : answer spoken (keys 1 normal 3) ≡ accepted (heard 1 false false voice)
+  pub nod-twice : wrong nodding (labAfter spoken) (keys 1 normal 1) .answer ≡ silent 0 false
+  pub none-missing : answer entered (keys 1 normal 1) ≡ sounds 0 true
+  pub one-missing : answer spoken (keys 1 normal 3) ≡ sounds 1 false
 
 pub record WrongBenches : Type 0 where
   pub tried : Tried

@@ -2,5 +2,4 @@ pub mod AccountLaws
 pub mod Accepted
 pub mod Sides
 pub mod PacketSteps
-pub mod AudioSent
 pub mod TellApart

@@ -1,14 +1,10 @@
 -- The packet's call in steps: 13 and 14, then the reader's 1 to 12, then 19 to 23 of the message.
-use Prim.Native.Nat.{ℕ, _+_, _-_, _≤_, _<_, min}
+use Prim.Native.Nat.{ℕ}
 use mathlib.Core.Path.{_≡_, refl, ap, sym, _∙_}
-use mathlib.Core.Bool.{Bool, true, false, cond, not}
-use mathlib.Core.List.{List, [], _++_}
-use native.Mathlib.Omega.{arith}
-use borrow.Author.Tests.{le-leb, lt-leb}
-use lib.ListN.{length, getD}
-use Rattle.base.specs.Bytes.{partOf}
+use mathlib.Core.Bool.{Bool, true, false, not}
+use mathlib.Core.List.{List, _++_}
+use lib.ListN.{getD}
 use Rattle.base.specs.Order.{missing}
-use Rattle.packet.specs.Packet.{payload, payloadAt}
 use Rattle.packet.specs.Refusals.{Case, NoCase, Answer, accepted, refusal, verdictOf, judged, mapped}
 use Rattle.reader.specs.Reading.{readerRefusals, messageOf, asTx, read, readTx, txAnswer}
 use Rattle.packet.specs.declared.message.Direction.the-variants as direction
@@ -19,13 +15,12 @@ use Rattle.packet.specs.declared.refusal.Verdict.the-variants.{Fine, Refused}
 use Rattle.reader.specs.declared.reading.TxRead.{TxRead}
 use Rattle.reader.specs.declared.reading.TxRead.the-variants as tx
 use Rattle.packet.proofs.Judged.{andThen, judged-mapped, by-verdict, meets-none, judged-split}
-use Rattle.reader.proofs.Passed.{Passed, length-most}
-use Rattle.record.specs.Record.{noSuchSeat, placeOf, closedSeat, seatOf}
+use Rattle.record.specs.Record.{noSuchSeat, entryOf, placeOf, closedSeat, seatOf}
 use Rattle.seats.specs.Opening.{seatRefusals, seatVerdict}
 use Rattle.air.specs.Air.{aired}
 use Rattle.hearing.specs.Account.{totalsAfter, totalTooLarge}
-use Rattle.hearing.specs.Hearing.{fieldHeard, messageIn, messageRefusals, packetRefusals, packetSaid, heardBench, sameField, isSent, hearing, audioIn, audioAt}
-use Rattle.hearing.specs.Pieces.{Whole, messageVerdict, letIn, admitted}
+use Rattle.hearing.specs.Hearing.{fieldHeard, messageIn, messageRefusals, packetRefusals, packetSaid, heardBench, sameField, isSent, hearing}
+use Rattle.hearing.specs.Pieces.{messageVerdict, letIn, admitted}
 use Rattle.record.specs.declared.setup.Setup.{Setup}
 use Rattle.record.specs.declared.seat.Field.{Field}
 use Rattle.record.specs.declared.seat.Seat.{Seat}
@@ -35,9 +30,6 @@ use Rattle.record.proofs.Seats.{placed}
 use Rattle.hearing.proofs.Accepted.{PacketAccepted, packet-accepted}
 
 -- ---- what passing a test leaves
-
-pub whole : (ext : ℕ) (p : List ℕ) → Passed direction.Tx ext p → Whole p
-whole ext p h = record { words = h .words-end; short = length-most direction.Tx ext p h }
 
 abbrev passes : Tx → Unit {0}
 passes m = tt
@@ -134,32 +126,15 @@ module _ (b : Bench) (n : ℕ) (p : List ℕ) (s : Seat) (i : ℕ) (at-place : i
     pub total-passed : totalTooLarge (totalsAfter s m) ≡ false
     total-passed = rw (seen, sym says) (taken .total-fits)
 
-    pub is-whole : Whole p
-    is-whole = whole (b .setup .ext) p (taken .was-read)
-
     pub packet-said : packetSaid b n p ≡ accepted (hearing b n p)
     unfolding packetSaid
     packet-said = sym (judged-mapped (λ (m : Tx). hearing b n p) refusals (messageIn p)) ∙ ap (mapped (λ (m : Tx). hearing b n p)) (judged-here ∙ ap txAnswer f)
 
 -- what the call answers, from what the functions that it calls answered
-pub hearing-told : (b : Bench) (n : ℕ) (p : List ℕ) {s : Seat} {m : Tx} {after : Bench} {sent same : Bool} {new : Field} {lost at long : ℕ}
-    → s ≡ seatOf (b .seats) n → messageIn p ≡ m → after ≡ aired (heardBench b n m) → sent ≡ getD (after .air .on) (n - 1) false → new ≡ fieldHeard m
+pub hearing-told : (b : Bench) (n : ℕ) (p : List ℕ) {s : Seat} {m : Tx} {after : Bench} {sent same : Bool} {new : Field} {lost : ℕ}
+    → s ≡ seatOf (b .seats) n → messageIn p ≡ m → after ≡ aired (heardBench b n m) → new ≡ fieldHeard m
     → same ≡ sameField (s .heard .field) new → lost ≡ missing (s .heard .any) (s .heard .sequence) (m .sequence)
-    → at ≡ cond sent (payloadAt p) 0 → long ≡ cond sent (length (payload p)) 0
-    → _≡_ {A = Hearing} (record { missing = lost; reply = not same; standby = after .standby; at = at; length = long }) (hearing b n p)
+    → sent ≡ entryOf false (after .air .on) n
+    → _≡_ {A = Hearing} (record { missing = lost; reply = not same; standby = after .standby; sent = sent }) (hearing b n p)
 unfolding hearing isSent
-hearing-told b n p seen is left air field compared count place size = simp (size, place, count, compared, field, air, left, ← is, seen)
-
--- ---- the audio in the packet
-
-module _ (h : Hearing) (p : List ℕ) where
-  pub audio-there : h .at + h .length ≤ length p
-      → (partOf (h .at) (h .at + h .length) p ≡ audioIn (accepted h) p) × (min (h .at) (min (h .at + h .length) (length p)) ≡ audioAt (accepted h) p)
-  unfolding audioIn audioAt
-  audio-there l =
-      let start : min (h .at) (min (h .at + h .length) (length p)) ≡ h .at = omega arith in
-      (simp (le-leb _ _ l), simp (le-leb _ _ l) start)
-
-  pub audio-past : length p < h .at + h .length → ([] ≡ audioIn (accepted h) p) × (0 ≡ audioAt (accepted h) p)
-  unfolding audioIn audioAt
-  audio-past l = (simp (lt-leb _ _ l), simp (lt-leb _ _ l))
+hearing-told b n p seen is left field compared count air = simp (air, count, compared, field, left, ← is, seen)

@@ -1,10 +1,9 @@
 -- 01: "Packet for a seat." What it refuses, what it answers, and what the bench is after it.
-use Prim.Native.Nat.{ℕ, _+_, _*_, _-_}
+use Prim.Native.Nat.{ℕ, _*_, min}
 use mathlib.Core.Bool.{Bool, true, false, cond, not, _&&_, _||_, Bool·beq}
 use mathlib.Core.List.{List, [], _∷_, _++_}
-use lib.Dec.{eqb, leb}
-use lib.ListN.{length, getD}
-use Rattle.base.specs.Bytes.{partOf}
+use lib.Dec.{eqb}
+use lib.ListN.{length}
 use Rattle.base.specs.Order.{otherSsrc, late}
 use Rattle.packet.specs.Packet.{payload, payloadAt, off, coupling, test}
 use Rattle.packet.specs.Refusals.{Case, _if_, Answer, accepted, refused, judged}
@@ -16,7 +15,7 @@ use Rattle.packet.specs.declared.message.SideItem.{SideItem}
 use Rattle.packet.specs.declared.message.SideItem.the-variants as side
 use Rattle.packet.specs.declared.message.Tx.{Tx}
 use Rattle.record.specs.Kind.{kindOf, itemBarred, itemsMoveSide}
-use Rattle.record.specs.Record.{seatOf, lesson, withSeat, withOrder, withSide}
+use Rattle.record.specs.Record.{entryOf, seatOf, lesson, withSeat, withOrder, withSide}
 use Rattle.seats.specs.Opening.{isTxRx, mayKey, ownId, seatRefusals}
 use Rattle.air.specs.Air.{benchAir}
 use Rattle.air.specs.Order.{orderAfter}
@@ -141,14 +140,14 @@ sameField old new =
     && Bool·beq (old .sided) (new .sided) && Bool·beq (old .standby) (new .standby)
 
 abbrev pub isOnAir : Bench → (n : ℕ) → Bool
-isOnAir b n = getD (benchAir b .on) (n - 1) false
+isOnAir b n = entryOf false (benchAir b .on) n
 
 -- "An accepted audio packet's payload is sent, to the side in use, exactly if its seat is on the air after it."
 unfoldable pub isSent : Bench → (n : ℕ) → Tx → Bool
 isSent b n m = isOnAir (heardBench b n m) n
 
 -- "Accepted, it answers: packets missing before it, whether to reply now, the side in use after it, and the audio to send"
--- (where the audio lies in the packet: its payload, empty for R2S, if the seat is on the air after it; else nothing at place 0)
+-- (here whether it is sent; audioIn is the audio)
 unfoldable pub hearing : Bench → (n : ℕ) → List ℕ → Hearing
 hearing b n p =
     let m = messageIn p in
@@ -157,19 +156,19 @@ hearing b n p =
       missing = missingBefore before m;
       reply = not (sameField (before .field) (fieldHeard m));
       standby = heardBench b n m .standby;
-      at = cond (isSent b n m) (payloadAt p) 0;
-      length = cond (isSent b n m) (length (payload p)) 0;
+      sent = isSent b n m;
     }
 
 unfoldable pub packetSaid : Bench → (n : ℕ) → List ℕ → Answer Hearing
 packetSaid b n p = judged (packetRefusals (b .setup) n (seatOf (b .seats) n) p) (hearing b n p)
 
--- ".. which is the payload inside the caller's own packet, or an empty part" (also where answer and packet don't fit)
-unfoldable pub audioIn : Answer Hearing → List ℕ → List ℕ
-audioIn (accepted h) p = cond (leb (h .at + h .length) (length p)) (partOf (h .at) (h .at + h .length) p) []
+-- ".. which is the payload inside the caller's own packet, or an empty part": "the audio answer is a part of the lent packet, empty when
+-- the seat is not on the air."
+abbrev pub audioIn : Answer Hearing → List ℕ → List ℕ
+audioIn (accepted h) p = cond (h .sent) (payload p) []
 audioIn (refused n c) p = []
 
--- where that part begins in the packet: behind the words if the seat is on the air, else at the packet's beginning
-unfoldable pub audioAt : Answer Hearing → List ℕ → ℕ
-audioAt (accepted h) p = cond (leb (h .at + h .length) (length p)) (h .at) 0
+-- where that part begins in the packet: behind the words if it is sent (at the end where they reach past it), else at the beginning
+abbrev pub audioAt : Answer Hearing → List ℕ → ℕ
+audioAt (accepted h) p = cond (h .sent) (min (payloadAt p) (length p)) 0
 audioAt (refused n c) p = 0

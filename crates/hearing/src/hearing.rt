@@ -1,16 +1,13 @@
 // A packet for a seat.
 ghost use mathlib.Core.Path.{_≡_};
-ghost use mathlib.Core.Bool.{false, cond};
-ghost use Prim.Native.Nat.{_-_};
-ghost use lib.ListN.{length, getD};
+ghost use mathlib.Core.Bool.{false};
 ghost use Rattle.base.specs.Bytes.{LiesAt};
-ghost use Rattle.packet.specs.Packet.{payload, payloadAt};
-ghost use Rattle.record.specs.Record.{noSuchSeat, settled};
+ghost use Rattle.record.specs.Record.{noSuchSeat, entryOf, settled};
 ghost use Rattle.air.specs.Air.{aired};
 ghost use Rattle.reader.specs.Reading.{txAnswer};
 ghost use Rattle.hearing.specs.Hearing.{messageIn, heardBench, packetSaid, audioIn, audioAt};
 ghost use Rattle.hearing.specs.Answers.{packetAnswer};
-ghost use Rattle.hearing.specs.Pieces.{Whole, admitted, letIn};
+ghost use Rattle.hearing.specs.Pieces.{admitted, letIn};
 use crate::admission::message_verdict;
 use crate::memory::field_heard;
 use crate::memory::heard_bench;
@@ -30,15 +27,14 @@ use record::Setup;
 use record::place;
 use seats::opening::seat_verdict;
 
-// What an accepted packet answers: packets missing before it, whether to reply now, the side in use after it, and where the
-// audio to send lies in the packet (0 and 0 where the seat is not on the air).
+// What an accepted packet answers: packets missing before it, whether to reply now, the side in use after it, and whether its
+// audio is sent: whether its seat is on the air after it. (`audio` hands out the part of the packet that is.)
 #[repr(C)]
 pub struct Hearing {
     pub missing: u16,
     pub reply: bool,
     pub standby: bool,
-    pub at: u32,
-    pub length: u32,
+    pub sent: bool,
 }
 
 pub enum PacketAnswer {
@@ -68,7 +64,6 @@ pub fn packet(b: Bench, n: u8, p: &[u8]) -> Packeted
         TxRead::Message(m) => {
             let moved = heard_bench(b, n, s, m);
             let after = aired(moved);
-            let sent = on_air(after, n);
             let heard = s.heard;
             let old = heard.field;
             let same = same_field(old, field_heard(m));
@@ -76,8 +71,7 @@ pub fn packet(b: Bench, n: u8, p: &[u8]) -> Packeted
                 missing: missing_before(heard, m),
                 reply: !same,
                 standby: after.standby,
-                at: sent_at(sent, p),
-                length: sent_length(sent, p),
+                sent: on_air(after, n),
             });
             Packeted {
                 bench: after,
@@ -87,22 +81,14 @@ pub fn packet(b: Bench, n: u8, p: &[u8]) -> Packeted
     }
 }
 
-// The audio to send, as a part of the lent packet; an empty part where there is none, or where answer and packet don't fit.
+// The audio to send, as a part of the lent packet: its payload where the answer says that it is sent, else an empty part.
 pub fn audio(answer: PacketAnswer, p: &[u8]) -> &[u8]
     ensures holds { λ r. ⌜ now r ≡ audioIn (packetAnswer answer) (now (p .entry)) ⌝ }
     ensures lies { λ r. ⌜ LiesAt (p .entry) (audioAt (packetAnswer answer) (now (p .entry))) r ⌝ }
 {
     match answer {
         PacketAnswer::Refused(_) => part(p, 0, 0),
-        PacketAnswer::Accepted(h) => {
-            let from = h.at as usize;
-            let to = from + h.length as usize;
-            if to <= p.len() {
-                part(p, from, to)
-            } else {
-                part(p, 0, 0)
-            }
-        }
+        PacketAnswer::Accepted(h) => { if h.sent { payload(p) } else { part(p, 0, 0) } }
     }
 }
 
@@ -137,27 +123,8 @@ fn let_in(setup: Setup, n: u8, s: Seat, m: Tx) -> TxRead
 // Whether seat n is on the air, as the record has it.
 fn on_air(b: Bench, n: u8) -> bool
     requires { ⌜ noSuchSeat n ≡ false ⌝ }
-    ensures { λ r. ⌜ r ≡ getD (b .air .on) (n - 1) false ⌝ }
+    ensures { λ r. ⌜ r ≡ entryOf false (b .air .on) n ⌝ }
 {
     let air = b.air;
     air.on[(n - 1) as usize]
-}
-
-// Where the audio to send begins: behind the words, which is where the payload does.
-fn sent_at(sent: bool, p: &[u8]) -> u32
-    requires { ⌜ Whole (now p) ⌝ }
-    ensures { λ r. ⌜ r ≡ cond sent (payloadAt (now (p .entry))) 0 ⌝ }
-{
-    if sent {
-        (p.len() - payload(p).len()) as u32
-    } else {
-        0
-    }
-}
-
-fn sent_length(sent: bool, p: &[u8]) -> u32
-    requires { ⌜ Whole (now p) ⌝ }
-    ensures { λ r. ⌜ r ≡ cond sent (length (payload (now (p .entry)))) 0 ⌝ }
-{
-    if sent { payload(p).len() as u32 } else { 0 }
 }

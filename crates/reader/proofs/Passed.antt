@@ -102,6 +102,3 @@ pub payload-length : (p : List ℕ) → length (payload p) ≡ length p - payloa
 unfolding payload
 payload-length p = simp length-drop
 
--- at most 15 CSRC words, 15 words and 240 bytes of audio
-pub length-most : (d : Direction) (ext : ℕ) (p : List ℕ) → Passed d ext p → length p ≤ 376
-length-most d ext p h = omega (arith, h .few-words, h .words-end, payload-most (payloadType p) (length (payload p)) (h .payload-allowed), payload-length p)

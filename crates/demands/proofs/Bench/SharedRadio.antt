@@ -28,6 +28,7 @@ use Rattle.record.specs.declared.kind.Kind.the-variants.{Single, Pair, Shared}
 use Rattle.record.specs.declared.setup.Setup.{Setup}
 use Rattle.record.specs.declared.seat.Field.{Field}
 use Rattle.record.specs.declared.whole.Bench.{Bench}
+use Rattle.hearing.specs.declared.hearing.Hearing.{Hearing}
 use Rattle.demands.specs.ExactCalls.{refusalsOf}
 use Rattle.demands.specs.AirKept.{AirRight}
 use Rattle.demands.specs.RoundTrip.{Narrow}
@@ -78,23 +79,23 @@ run b (c ∷ cs) shared =
     run (keeping b c .bench) cs (ap (λ (setup : Setup). kindOf (setup .kind)) (setup-kept b c) ∙ shared)
     ∙ ap (λ (inUse : Bool). lastSide inUse cs) (by-each-call b shared c)
 
-side-answered : (b : Bench) (n : ℕ) (p : List ℕ) (missing : ℕ) (reply standby : Bool) (sound : List ℕ) → IsShared b
-    → keeping b (packet n p) .answer ≡ accepted (heard missing reply standby sound) → standby ≡ b .standby
+side-answered : (b : Bench) (n : ℕ) (p : List ℕ) (h : Hearing) (sound : List ℕ) → IsShared b
+    → keeping b (packet n p) .answer ≡ accepted (heard h sound) → h .standby ≡ b .standby
 unfolding hearing
-side-answered b n p missing reply standby sound shared e =
-    let said : standby ≡ heardBench b n (messageIn p) .standby = cc (was-accepted b (packet n p) (heard missing reply standby sound) e .1) in
+side-answered b n p h sound shared e =
+    let said : h .standby ≡ heardBench b n (messageIn p) .standby = cc (was-accepted b (packet n p) (heard h sound) e .1) in
     said ∙ packet-unmoved b shared n p
 
 differs : (old : Field) (m : Tx) → old .sided ≡ false → hasSide (m .side) ≡ true → sameField old (fieldHeard m) ≡ false
 unfolding sameField fieldHeard
 differs old m none has = simp (none, has, and-none)
 
-zero-differs : (b : Bench) (n : ℕ) (p : List ℕ) (missing : ℕ) (reply standby : Bool) (sound : List ℕ) → seatOf (b .seats) n .heard .field .sided ≡ false
-    → hasSide (messageIn p .side) ≡ true → keeping b (packet n p) .answer ≡ accepted (heard missing reply standby sound) → reply ≡ true
+zero-differs : (b : Bench) (n : ℕ) (p : List ℕ) (h : Hearing) (sound : List ℕ) → seatOf (b .seats) n .heard .field .sided ≡ false
+    → hasSide (messageIn p .side) ≡ true → keeping b (packet n p) .answer ≡ accepted (heard h sound) → h .reply ≡ true
 unfolding hearing
-zero-differs b n p missing reply standby sound none has e =
+zero-differs b n p h sound none has e =
     let old = seatOf (b .seats) n .heard .field in
-    let said : reply ≡ not (sameField old (fieldHeard (messageIn p))) = cc (was-accepted b (packet n p) (heard missing reply standby sound) e .1) in
+    let said : h .reply ≡ not (sameField old (fieldHeard (messageIn p))) = cc (was-accepted b (packet n p) (heard h sound) e .1) in
     said ∙ ap not (differs old (messageIn p) none has)
 
 -- ---- 23

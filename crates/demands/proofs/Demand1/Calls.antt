@@ -20,7 +20,7 @@ use Rattle.packet.proofs.Judged.{judged-both, judged-one, judged-mapped, accept
 abbrev pub saidBy : Bench → Call → Said
 saidBy b (opening n r) = own (ownId n (callCode (r .call)))
 saidBy b (closing n) = done
-saidBy b (packet n p) = told (packetSaid b n p) p (hearing b n p)
+saidBy b (packet n p) = told p (hearing b n p)
 saidBy b (tick ms timestamp room) = ticked (silentSeats b ms) (dueSeats b ms) (records b ms timestamp)
 saidBy b (report n timestamp sound room) = written (reportBytes b n timestamp sound)
 saidBy b (received signals level) = done
@@ -49,7 +49,7 @@ pub call-answer : (b : Bench) (c : Call) → keeping b c .answer ≡ judged (ref
 unfolding does openSaid closeSaid seatVerdict packetSaid tickSaid reportSaid sideSaid totalsSaid
 call-answer b (opening n r) = judged-mapped own (refusalsOf b (opening n r)) (ownId n (callCode (r .call)))
 call-answer b (closing n) = judged-mapped (λ u. done) (refusalsOf b (closing n)) tt
-call-answer b (packet n p) = judged-mapped (told (packetSaid b n p) p) (refusalsOf b (packet n p)) (hearing b n p)
+call-answer b (packet n p) = judged-mapped (told p) (refusalsOf b (packet n p)) (hearing b n p)
 call-answer b (tick ms timestamp room) =
     judged-mapped (λ used. ticked (silentSeats b ms) (dueSeats b ms) (records b ms timestamp)) (refusalsOf b (tick ms timestamp room)) _
 call-answer b (report n timestamp sound room) =

@@ -4,15 +4,14 @@ use Prim.Native.Nat.{ℕ}
 use mathlib.Core.Path.{_≡_, refl, sym, ap, _∙_}
 use mathlib.Core.Bool.{Bool, true, false, cond}
 use mathlib.Core.List.{List, [], _∷_}
-use Rattle.base.proofs.Truths.{either-way}
-use Rattle.packet.specs.Refusals.{accepted}
+use Rattle.base.proofs.Truths.{and-none, either-way}
 use Rattle.record.specs.Record.{seatNumbers, lesson, freshBench}
 use Rattle.record.proofs.Seats.{same-lessons}
-use Rattle.bench.specs.Step.{Call, opening, closing, packet, tick, report, received, transmitter, side, totals, heard, Machine, step, keeping, after}
+use Rattle.bench.specs.Step.{Call, opening, closing, packet, tick, report, received, transmitter, side, totals, Machine, step, keeping, after}
 use Rattle.record.specs.declared.setup.Setup.{Setup}
 use Rattle.record.specs.declared.seat.Seat.{Seat}
 use Rattle.record.specs.declared.whole.Bench.{Bench}
-use Rattle.demands.specs.Apart.{named, withoutLessons, liveAboveTest, fixed, compared}
+use Rattle.demands.specs.Apart.{named, withoutLessons, liveAboveTest, fixed, compared, audioSent}
 use Rattle.demands.specs.WrongBenches.{nodding, isLater, nod, wrong, ApartAlone}
 use Rattle.demands.proofs.Demand3.WithoutLessons.{low, seat-low}
 use Rattle.demands.proofs.Bench.SeatAfter.{setup-kept}
@@ -98,7 +97,7 @@ module _ (setup : Setup) (xs ys : List Call) (e : withoutLessons setup xs ≡ wi
   -- a nod is the same in all that is compared
   nods-same : (c : Call) → compared setup c (nod (ran setup handledXs)) ≡ compared setup c (nod (ran setup handledYs))
   unfolding compared fixed
-  nods-same c = simp (either-way, standby-same)
+  nods-same c = simp (either-way, and-none, standby-same)
 
   same : (c : Call) → lesson setup (named c) ≡ false
       → compared setup c (wrong nodding (ran setup handledXs) c) ≡ compared setup c (wrong nodding (ran setup handledYs) c)
@@ -109,20 +108,32 @@ module _ (setup : Setup) (xs ys : List Call) (e : withoutLessons setup xs ≡ wi
       by-call true = nods-same c
       by-call false = lessons-apart setup handledXs handledYs handled-alike .same c live
 
+  together-after : (c : Call) → lesson setup (named c) ≡ false
+      → liveAboveTest (wrong nodding (ran setup handledXs) c .bench) seatNumbers ≡ liveAboveTest (wrong nodding (ran setup handledYs) c .bench) seatNumbers
+  together-after c live = simp (later-same c live) (by-call (isLater (ran setup handledYs) c))
+    where
+      by-call : (t : Bool) → liveAboveTest (cond t (nod (ran setup handledXs)) (keeping (ran setup handledXs) c) .bench) seatNumbers
+          ≡ liveAboveTest (cond t (nod (ran setup handledYs)) (keeping (ran setup handledYs) c) .bench) seatNumbers
+      by-call true = lessons-apart setup handledXs handledYs handled-alike .together
+      by-call false = lessons-apart setup handledXs handledYs handled-alike .together-after c live
+
   no-lesson-audio : (n : ℕ) (p : List ℕ) → lesson setup n ≡ true → liveAboveTest (wrong nodding (ran setup handledXs) (packet n p) .bench) seatNumbers ≡ true
-      → (missing : ℕ) (reply standby : Bool) (sound : List ℕ)
-      → wrong nodding (ran setup handledXs) (packet n p) .answer ≡ accepted (heard missing reply standby sound) → sound ≡ []
-  no-lesson-audio n p hidden up missing reply standby sound said = by-call (isLater (ran setup handledXs) (packet n p)) up said
+      → audioSent (wrong nodding (ran setup handledXs) (packet n p) .answer) ≡ (false, [])
+  unfolding audioSent
+  no-lesson-audio n p hidden up = by-call (isLater (ran setup handledXs) (packet n p)) up
     where
       by-call : (t : Bool) → liveAboveTest (cond t (nod (ran setup handledXs)) (keeping (ran setup handledXs) (packet n p)) .bench) seatNumbers ≡ true
-          → cond t (nod (ran setup handledXs)) (keeping (ran setup handledXs) (packet n p)) .answer ≡ accepted (heard missing reply standby sound) → sound ≡ []
-      by-call true u q = cc
-      by-call false u q = lessons-apart setup handledXs handledYs handled-alike .no-lesson-audio n p hidden u missing reply standby sound q
+          → audioSent (cond t (nod (ran setup handledXs)) (keeping (ran setup handledXs) (packet n p)) .answer) ≡ (false, [])
+      by-call true u = refl
+      by-call false u = lessons-apart setup handledXs handledYs handled-alike .no-lesson-audio n p hidden u
 
 pub nodding-apart : ApartAlone (wrong nodding)
 nodding-apart setup xs ys e = rw (after-handled (freshBench setup) xs, after-handled (freshBench setup) ys)
     (record {
       together = lessons-apart setup (handledXs setup xs ys e) (handledYs setup xs ys e) (handled-alike setup xs ys e) .together;
+      together-after = together-after setup xs ys e;
       same = same setup xs ys e;
       no-lesson-audio = no-lesson-audio setup xs ys e;
+      on-air = lessons-apart setup (handledXs setup xs ys e) (handledYs setup xs ys e) (handled-alike setup xs ys e) .on-air;
+      on-record = lessons-apart setup (handledXs setup xs ys e) (handledYs setup xs ys e) (handled-alike setup xs ys e) .on-record;
     })

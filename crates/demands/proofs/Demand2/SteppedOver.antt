@@ -11,15 +11,14 @@ use Rattle.base.specs.Bytes.{Bytes}
 use Rattle.base.proofs.Truths.{and-left, and-right, or-left, or-right}
 use Rattle.packet.specs.Packet.{payloadType, extensionType, wordCount, payload, fieldAllowed, payloadAllowed}
 use Rattle.packet.specs.Items.{Item, ddcType, itemAllowed, allAllowed, hasType, noTypeTwice, sqiAmong, climaxAmong, sideAmong, kept}
-use Rattle.packet.specs.Refusals.{Case, NoCase, Answer, accepted, judged}
+use Rattle.packet.specs.Refusals.{Case, Answer, accepted, judged}
 use Rattle.packet.proofs.Judged.{judged-both}
 use Rattle.reader.specs.Reading.{messageOf, itemsHere, read, readerRefusals, asTx}
 use Rattle.reader.proofs.Passed.{Passed, accepted-passed}
 use Rattle.writer.specs.Writing.{itemBytes, fieldOf}
 use Rattle.record.specs.Record.{seatOf}
 use Rattle.air.specs.Air.{aired}
-use Rattle.hearing.specs.Hearing.{messageIn, packetRefusals, heardBench, hearing, packetSaid, audioIn}
-use Rattle.hearing.proofs.AudioSent.{sound-is}
+use Rattle.hearing.specs.Hearing.{messageIn, packetRefusals, heardBench, hearing, packetSaid}
 use Rattle.bench.specs.Step.{packet, Said, Outcome, outcome, told, does, keeping}
 use Rattle.packet.specs.declared.message.Direction.{Direction}
 use Rattle.packet.specs.declared.message.Direction.the-variants.{Tx}
@@ -188,29 +187,22 @@ module _ (csrc : List ℕ) (kind ext : ℕ) (m : Message) (sound : List ℕ) (wo
     unfolding packetRefusals
     packet-refusals = simp (refusals-alike Tx (b .setup .ext), message-alike)
 
-    -- the audio lies at another place where there are fewer words, and is the same
-    audio-alike : NoCase (refusals p) → audioIn (packetSaid b n q) q ≡ audioIn (packetSaid b n p) p
-    audio-alike none =
-        sound-is b n q (subst NoCase (sym packet-refusals) none)
-        ∙ (simp (message-alike, sound-alike))
-        ∙ sym (sound-is b n p none)
-
-    said-alike : NoCase (refusals p) → told (packetSaid b n q) q (hearing b n q) ≡ told (packetSaid b n p) p (hearing b n p)
+    said-alike : told q (hearing b n q) ≡ told p (hearing b n p)
     unfolding hearing
-    said-alike none = simp (message-alike, audio-alike none)
+    said-alike = simp (message-alike, sound-alike)
 
     bench-alike : heardBench b n (messageIn q) ≡ heardBench b n (messageIn p)
     bench-alike = ap (λ (s : Message). heardBench b n (asTx s)) message-alike
 
     abbrev after : List ℕ → Answer Hearing → Outcome
-    after l a = outcome a (told (packetSaid b n l) l) b (aired (heardBench b n (messageIn l)))
+    after l a = outcome a (told l) b (aired (heardBench b n (messageIn l)))
 
     heard-alike : keeping b (packet n q) ≡ keeping b (packet n p)
     unfolding does packetSaid
     heard-alike =
         ap (λ (cs : List Case). after q (judged cs (hearing b n q))) packet-refusals
         ∙ judged-both (λ x y. after q x ≡ after p y) (refusals p) (hearing b n q) (hearing b n p)
-        (λ k c. refl) (λ none. ap₂ (λ (s : Said) (r : Bench). record { answer = accepted s; bench = r }) (said-alike none) (ap aired bench-alike))
+        (λ k c. refl) (λ none. ap₂ (λ (s : Said) (r : Bench). record { answer = accepted s; bench = r }) said-alike (ap aired bench-alike))
 
   reads-alike : (d : Direction) (asked : ℕ) → read d asked q ≡ read d asked p
   unfolding read

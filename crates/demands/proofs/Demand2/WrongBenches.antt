@@ -15,30 +15,30 @@ use Rattle.packet.specs.Quality.{quality}
 use Rattle.reader.specs.Reading.{readerRefusals, itemsHere, messageOf}
 use Rattle.writer.specs.Writing.{risingItems, itemBytes, wordsOf, headOf, encode}
 use Rattle.record.specs.Kind.{kindOf}
-use Rattle.record.specs.Record.{seatNumbers, openedSeat, freshBench, seatOf, lesson}
+use Rattle.record.specs.Record.{seatNumbers, entryOf, openedSeat, freshBench, seatOf, lesson}
 use Rattle.seats.specs.Opening.{anyCoupling, openRefusals, openSaid, openedBench, seatRefusals}
 use Rattle.air.specs.Air.{takesPart, keyingsOf, keyings, topRank, atRank, leaders, added, onAir, among, smallest, anySends, airOf, benchAir}
 use Rattle.air.specs.Order.{begins, toLast, orderAfter}
 use Rattle.hearing.specs.Account.{totalsAfter, totalTooLarge}
-use Rattle.hearing.specs.Hearing.{fieldHeard, keyingBarred, idAllowed, sideBarred, messageRefusals, packetRefusals, heardSeat, takesEffect, sideAfter, heardBench, sameField, isSent, hearing, packetSaid, audioIn}
+use Rattle.hearing.specs.Hearing.{fieldHeard, keyingBarred, idAllowed, sideBarred, messageRefusals, packetRefusals, heardSeat, takesEffect, sideAfter, heardBench, sameField, isSent, hearing, packetSaid}
 use Rattle.reporting.specs.Reporting.{reportOf, reportBytes, reportRefusals, reportSaid, reportedBench}
 use Rattle.bench.specs.Step.{Call, packet, Said, done, own, heard, ticked, written, totalled, Outcome, Machine, does, keeping, after}
 use Rattle.record.specs.declared.setup.Setup.{Setup}
+use Rattle.record.specs.declared.shown.Air.{Air}
 use Rattle.record.specs.declared.whole.Bench.{Bench}
-use Rattle.demands.specs.Apart.{pttOf, liveAboveTest, asSeen, amongLive, recordsSeen, fixed, compared}
-use Rattle.demands.specs.LessonsSeen.{enters, voice, keys, asked, quietReport}
-use Rattle.demands.specs.Undisturbed.{audioSent}
+use Rattle.hearing.specs.declared.hearing.Hearing.{Hearing}
+use Rattle.demands.specs.Apart.{pttOf, liveAboveTest, asSeen, amongLive, recordsSeen, fixed, compared, audioSent, SameOnAir}
+use Rattle.demands.specs.LessonsSeen.{enters, keys, asked, quietReport, sounds}
 use Rattle.demands.specs.WrongBenches.{Keeps, labAfter, Answers, Leaves, WrongBench, refusing, repeating, ignoring, nodding, inventing, withBytes, withCount, retold, wrong, ApartAlone, entered, reported, spoken, Tried, WrongBenches}
 use Rattle.packet.proofs.Judged.{never}
 use Rattle.demands.proofs.Demand3.LiveTicks.{flag-compared, live-alike}
 use Rattle.demands.proofs.Demand3.Apart.{lessons-apart}
-use Rattle.demands.proofs.Demand3.Undisturbed.{none-sent, together-then}
 use Rattle.demands.proofs.Demand2.Nodding.{nodding-apart}
 
 -- ---- the calls that are tried, computed
 
 tried : Tried
-unfolding centred distance late missing payload payloadAllowed fieldAllowed afterField allZero itemsBehind itemAllowed allAllowed hasType noTypeTwice runAllowed itemsAllowed itemsOf sqiAmong climaxAmong sideAmong kept quality readerRefusals itemsHere messageOf risingItems itemBytes wordsOf headOf encode kindOf openedSeat freshBench seatOf lesson anyCoupling openRefusals openSaid openedBench takesPart keyingsOf keyings topRank atRank leaders added onAir among smallest howMany anySends airOf benchAir fieldHeard keyingBarred idAllowed sideBarred seatRefusals totalsAfter totalTooLarge messageRefusals packetRefusals heardSeat begins toLast orderAfter takesEffect sideAfter heardBench sameField isSent hearing packetSaid audioIn reportOf reportBytes reportRefusals reportSaid reportedBench does after
+unfolding centred distance late missing payload payloadAllowed fieldAllowed afterField allZero itemsBehind itemAllowed allAllowed hasType noTypeTwice runAllowed itemsAllowed itemsOf sqiAmong climaxAmong sideAmong kept quality readerRefusals itemsHere messageOf risingItems itemBytes wordsOf headOf encode kindOf openedSeat freshBench seatOf lesson anyCoupling openRefusals openSaid openedBench takesPart keyingsOf keyings topRank atRank leaders added onAir among smallest howMany anySends airOf benchAir fieldHeard keyingBarred idAllowed sideBarred seatRefusals totalsAfter totalTooLarge messageRefusals packetRefusals heardSeat begins toLast orderAfter takesEffect sideAfter heardBench sameField isSent hearing packetSaid reportOf reportBytes reportRefusals reportSaid reportedBench does after
 tried =
     record {
       opens = refl;
@@ -76,15 +76,16 @@ not-nodding h =
     let same : _≡_ {A = ℕ} normal off = sym (tried .nod-releases-not) ∙ ap (λ (b : Bench). pttOf b 1) h ∙ tried .releases in omega arith
 
 not-nodding-twice : Answers (wrong nodding) spoken (keys 1 normal 1) → ⊥
-not-nodding-twice h = never (heard 0 false false []) 20 0 (sym (tried .nod-twice) ∙ h ∙ tried .not-twice)
+not-nodding-twice h = never _ 20 0 (sym (tried .nod-twice) ∙ h ∙ tried .not-twice)
+
+count-said : {g h : Hearing} {sound other : List ℕ} → _≡_ {A = Answer Said} (accepted (heard g sound)) (accepted (heard h other)) → g .missing ≡ h .missing
+count-said {g} {h} e = let same : g ≡ h = cc in ap (λ (x : Hearing). x .missing) same
 
 not-inventing : (count : ℕ) → Answers (wrong (inventing count)) entered (keys 1 normal 1) → Answers (wrong (inventing count)) spoken (keys 1 normal 3) → ⊥
 not-inventing count first third =
-    let none : _≡_ {A = Answer Said} (accepted (heard count true false voice)) (accepted (heard 0 true false voice)) =
-    ap (mapped (withCount count)) (sym (tried .none-missing)) ∙ first ∙ tried .none-missing in
-    let one : _≡_ {A = Answer Said} (accepted (heard count false false voice)) (accepted (heard 1 false false voice)) =
-    ap (mapped (withCount count)) (sym (tried .one-missing)) ∙ third ∙ tried .one-missing in
-    let same : _≡_ {A = ℕ} 0 1 = cc in omega arith
+    let none : sounds count true ≡ sounds 0 true = ap (mapped (withCount count)) (sym (tried .none-missing)) ∙ first ∙ tried .none-missing in
+    let one : sounds count false ≡ sounds 1 false = ap (mapped (withCount count)) (sym (tried .one-missing)) ∙ third ∙ tried .one-missing in
+    omega (arith, count-said none, count-said one)
 
 shut-out : (w : WrongBench) → Keeps (wrong w) → ⊥
 shut-out (refusing number cause) keeps = not-refusing number cause (ap (λ (o : Outcome). o .answer) (keeps (labAfter []) (enters 1)))
@@ -105,6 +106,9 @@ quiet-start : (setup : Setup) → liveAboveTest (freshBench setup) seatNumbers �
 unfolding liveAboveTest freshBench takesPart seatOf
 quiet-start setup = simp and-none
 
+seen-alike : (n : ℕ) {a b : Air} → a ≡ b → SameOnAir n a b
+seen-alike n e = record { on = ap (λ (a : Air). entryOf false (a .on) n) e; leads = ap (λ (a : Air). entryOf false (a .leads) n) e }
+
 module _ (machine : Machine) (still : (b : Bench) (c : Call) → machine b c .bench ≡ b) where
   stays : (b : Bench) (cs : List Call) → after machine b cs ≡ b
   unfolding after
@@ -116,9 +120,12 @@ module _ (machine : Machine) (still : (b : Bench) (c : Call) → machine b c .be
       let alike = stays (freshBench setup) xs ∙ sym (stays (freshBench setup) ys) in
       record {
         together = ap (λ (b : Bench). liveAboveTest b seatNumbers) alike;
+        together-after = λ c live. ap (λ (b : Bench). liveAboveTest (machine b c .bench) seatNumbers) alike;
         same = λ c live. ap (λ (b : Bench). compared setup c (machine b c)) alike;
-        no-lesson-audio = λ n p hidden up missing reply standby sound said. absurd (false≢true
+        no-lesson-audio = λ n p hidden up. absurd (false≢true
             (sym (quiet-start setup) ∙ ap (λ (b : Bench). liveAboveTest b seatNumbers) (sym (still _ _ ∙ stays (freshBench setup) xs)) ∙ up));
+        on-air = λ n live other. seen-alike n (ap benchAir alike);
+        on-record = λ n live other. seen-alike n (ap (λ (b : Bench). b .air) alike);
       }
 
 -- ---- demand 3 alone: a bench right but for what it says
@@ -128,9 +135,6 @@ record Retelling (tell : Said → Said) : Type 0 where
   seen : Setup → (up : Bool) → Said → Said
   follows : (setup : Setup) (up keysTest : Bool) (s : Said) → fixed setup up keysTest (tell s) ≡ seen setup up (fixed setup up keysTest s)
   same-audio : (s : Said) → audioSent (accepted (tell s)) ≡ audioSent (accepted s)
-
-abbrev aboveTestThen : Setup → List Call → Call → Bool
-aboveTestThen setup run c = liveAboveTest (keeping (after keeping (freshBench setup) run) c .bench) seatNumbers
 
 module _ (tell : Said → Said) (r : Retelling tell) where
   after-retold : (b : Bench) (cs : List Call) → after (retold tell) b cs ≡ after keeping b cs
@@ -158,18 +162,16 @@ module _ (tell : Said → Said) (r : Retelling tell) where
   retold-apart setup xs ys e = rw (after-retold (freshBench setup) xs, after-retold (freshBench setup) ys)
       (record {
         together = lessons-apart setup xs ys e .together;
+        together-after = lessons-apart setup xs ys e .together-after;
         same = λ c live.
             compared-retold setup c (after keeping (freshBench setup) xs)
-            ∙ ap₂ (λ (up : Bool) (a : Answer Said). mapped (r .seen setup up) a) (together-after c) (lessons-apart setup xs ys e .same c live)
+            ∙ ap₂ (λ (up : Bool) (a : Answer Said). mapped (r .seen setup up) a) (lessons-apart setup xs ys e .together-after c live) (lessons-apart setup xs ys e .same c live)
             ∙ sym (compared-retold setup c (after keeping (freshBench setup) ys));
-        no-lesson-audio = λ n p hidden up missing reply standby sound said.
-            ap audioSent (sym said) ∙ audio-retold (keeping (after keeping (freshBench setup) xs) (packet n p) .answer)
-            ∙ none-sent _ (lessons-apart setup xs ys e .no-lesson-audio n p hidden up);
+        no-lesson-audio = λ n p hidden up.
+            audio-retold (keeping (after keeping (freshBench setup) xs) (packet n p) .answer) ∙ lessons-apart setup xs ys e .no-lesson-audio n p hidden up;
+        on-air = lessons-apart setup xs ys e .on-air;
+        on-record = lessons-apart setup xs ys e .on-record;
       })
-    where
-      together-after : (c : Call) → aboveTestThen setup xs c ≡ aboveTestThen setup ys c
-      together-after c =
-          together-then setup xs c ∙ ap (λ (run : List Call). aboveTestThen setup run c) e ∙ sym (together-then setup ys c)
 
 -- the same bytes for each due seat; what is seen of them comes from the due live seats alone
 abbrev bytesFor : List ℕ → List Bool → List (List ℕ)
@@ -191,7 +193,7 @@ bytes-retelling bytes = record { seen = seen; follows = follows; same-audio = sa
     seen : Setup → (up : Bool) → Said → Said
     seen setup up done = done
     seen setup up (own id) = own id
-    seen setup up (heard missing reply standby sound) = heard missing reply standby sound
+    seen setup up (heard h sound) = heard h sound
     seen setup up (ticked closed due records) = ticked closed due (recordsSeen setup up (bytesFor bytes due))
     seen setup up (written told) = written (asSeen up bytes)
     seen setup up (totalled packets missing) = totalled packets missing
@@ -199,7 +201,7 @@ bytes-retelling bytes = record { seen = seen; follows = follows; same-audio = sa
     follows : (setup : Setup) (up keysTest : Bool) (s : Said) → fixed setup up keysTest (withBytes bytes s) ≡ seen setup up (fixed setup up keysTest s)
     follows setup up keysTest done = refl
     follows setup up keysTest (own id) = refl
-    follows setup up keysTest (heard missing reply standby sound) = refl
+    follows setup up keysTest (heard h sound) = refl
     follows setup up keysTest (ticked closed due records) = ap (ticked (amongLive setup closed) (amongLive setup due)) (bytes-seen setup up bytes due)
     follows setup up keysTest (written told) = refl
     follows setup up keysTest (totalled packets missing) = refl
@@ -207,7 +209,7 @@ bytes-retelling bytes = record { seen = seen; follows = follows; same-audio = sa
     same-audio : (s : Said) → audioSent (accepted (withBytes bytes s)) ≡ audioSent (accepted s)
     same-audio done = refl
     same-audio (own id) = refl
-    same-audio (heard missing reply standby sound) = refl
+    same-audio (heard h sound) = refl
     same-audio (ticked closed due records) = refl
     same-audio (written told) = refl
     same-audio (totalled packets missing) = refl
@@ -220,7 +222,7 @@ count-retelling count = record { seen = λ setup up. withCount count; follows = 
         → fixed setup up keysTest (withCount count s) ≡ withCount count (fixed setup up keysTest s)
     follows setup up keysTest done = refl
     follows setup up keysTest (own id) = refl
-    follows setup up keysTest (heard missing reply standby sound) = refl
+    follows setup up keysTest (heard h sound) = refl
     follows setup up keysTest (ticked closed due records) = refl
     follows setup up keysTest (written told) = refl
     follows setup up keysTest (totalled packets missing) = refl
@@ -228,7 +230,7 @@ count-retelling count = record { seen = λ setup up. withCount count; follows = 
     same-audio : (s : Said) → audioSent (accepted (withCount count s)) ≡ audioSent (accepted s)
     same-audio done = refl
     same-audio (own id) = refl
-    same-audio (heard missing reply standby sound) = refl
+    same-audio (heard h sound) = refl
     same-audio (ticked closed due records) = refl
     same-audio (written told) = refl
     same-audio (totalled packets missing) = refl

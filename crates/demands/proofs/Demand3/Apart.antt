@@ -1,26 +1,28 @@
 -- Demand 3: live seats see of a run what they would see of it without its lesson calls.
 use Prim.Native.Nat.{ℕ}
-use mathlib.Core.Path.{_≡_, refl, sym, ap, ap₂, subst, _∙_}
+use mathlib.Core.Path.{_≡_, refl, sym, ap, subst, subst₂, _∙_}
 use mathlib.Core.Bool.{Bool, true, false, cond}
 use mathlib.Core.List.{List, [], _∷_}
 use lib.Dec.{eqb}
 use Rattle.packet.specs.Packet.{test}
 use Rattle.packet.specs.Refusals.{mapped}
-use Rattle.record.specs.Record.{seatNumbers, lesson, freshBench, withHealth, withSignals}
+use Rattle.record.specs.Record.{seatNumbers, entryOf, lesson, freshBench, withHealth, withSignals}
 use Rattle.record.proofs.Seats.{same-lessons}
-use Rattle.air.specs.Air.{aired}
+use Rattle.air.specs.Air.{benchAir, aired}
 use Rattle.bench.specs.Step.{Call, opening, closing, packet, tick, report, received, transmitter, side, totals, done, does, step, keeping, after}
 use Rattle.record.specs.declared.setup.Setup.{Setup}
 use Rattle.record.specs.declared.seat.Seat.{Seat}
+use Rattle.record.specs.declared.shown.Air.{Air}
 use Rattle.record.specs.declared.whole.Bench.{Bench}
 use Rattle.demands.specs.AirKept.{AirRight}
-use Rattle.demands.specs.Apart.{named, withoutLessons, pttOf, liveAboveTest, fixed, compared, LessonsApart}
+use Rattle.demands.specs.Apart.{named, withoutLessons, keysTest, pttOf, liveAboveTest, fixed, compared, SameOnAir, LessonsApart}
 use Rattle.demands.proofs.Bench.Runs.{after-run}
 use Rattle.demands.proofs.Bench.AirKept.{air-at-start, air-by-call}
 use Rattle.demands.proofs.Demand3.WithoutLessons.{low, seat-low}
 use Rattle.demands.proofs.Bench.SeatAfter.{setup-kept}
 use Rattle.demands.proofs.Demand3.LessonSeats.{Held, held-call, held-fresh}
 use Rattle.demands.proofs.Demand3.BenchAir.{above-test-low}
+use Rattle.demands.proofs.Demand3.LiveOnAir.{live-on-air}
 use Rattle.demands.proofs.Demand3.LessonCalls.{unseen}
 use Rattle.demands.proofs.Demand3.LiveCalls.{Match, match-plain, match-opening, match-closing, match-side, match-totals}
 use Rattle.demands.proofs.Demand3.LiveReports.{match-report}
@@ -55,23 +57,17 @@ matched b (transmitter healthy) i live =
 matched b (side standby) i live = match-side b standby
 matched b (totals n) i live = match-totals b n live
 
--- and so its answer is the same in all that is compared
+-- so "While .." holds after it in both or in neither,
+above-same : (b : Bench) (c : Call) → Reached b → lesson (b .setup) (named c) ≡ false
+    → liveAboveTest (step (low b) c .bench) seatNumbers ≡ liveAboveTest (keeping b c .bench) seatNumbers
+above-same b c i live = ap (λ (x : Bench). liveAboveTest x seatNumbers) (matched b c i live .bench) ∙ above-test-low (keeping b c .bench)
+
+-- and its answer is the same in all that is compared
 compared-low : (b : Bench) (c : Call) → Reached b → lesson (b .setup) (named c) ≡ false
     → compared (b .setup) c (step (low b) c) ≡ compared (b .setup) c (keeping b c)
 unfolding compared
 compared-low b c i live =
-    ap₂ (λ (up isTest : Bool). mapped (fixed (b .setup) up isTest) (step (low b) c .answer)) above-same test-same ∙ matched b c i live .answer
-  where
-    same : step (low b) c .bench ≡ low (keeping b c .bench)
-    same = matched b c i live .bench
-
-    above-same : liveAboveTest (step (low b) c .bench) seatNumbers ≡ liveAboveTest (keeping b c .bench) seatNumbers
-    above-same = ap (λ (x : Bench). liveAboveTest x seatNumbers) same ∙ above-test-low (keeping b c .bench)
-
-    test-same : eqb (pttOf (step (low b) c .bench) (named c)) test ≡ eqb (pttOf (keeping b c .bench) (named c)) test
-    test-same =
-        ap (λ (x : Bench). eqb (pttOf x (named c)) test) same
-        ∙ ap (λ (s : Seat). eqb (s .heard .field .ptt) test) (seat-low (keeping b c .bench) (named c) (same-lessons (setup-kept b c) (named c) live))
+    ap (λ (up : Bool). mapped (fixed (b .setup) up (keysTest c)) (step (low b) c .answer)) (above-same b c i live) ∙ matched b c i live .answer
 
 -- ---- whole runs
 
@@ -121,6 +117,31 @@ module _ (setup : Setup) where
       subst (λ (s : Setup). compared s c (step (low (ran setup run)) c) ≡ compared s c (keeping (ran setup run) c)) (its-setup run)
       (compared-low (ran setup run) c (reached run) (its-lesson run (named c) live))
 
+-- ---- who is on the air
+
+module _ (setup : Setup) (xs ys : List Call) (e : withoutLessons setup xs ≡ withoutLessons setup ys) (n : ℕ) (live : lesson setup n ≡ false)
+    (other : eqb (pttOf (ran setup xs) n) test ≡ false) where
+  -- what a seat last keyed is seen without lesson seats too
+  low-keys : (run : List Call) → pttOf (low (ran setup run)) n ≡ pttOf (ran setup run) n
+  low-keys run = ap (λ (s : Seat). s .heard .field .ptt) (seat-low (ran setup run) n (its-lesson setup run n live))
+
+  other-too : eqb (pttOf (ran setup ys) n) test ≡ false
+  other-too =
+      ap (λ (ptt : ℕ). eqb ptt test) (sym (low-keys ys) ∙ ap (λ (x : Bench). pttOf x n) (sym (low-alike setup xs ys e)) ∙ low-keys xs) ∙ other
+
+  on-air : SameOnAir n (benchAir (ran setup xs)) (benchAir (ran setup ys))
+  on-air =
+      let x = live-on-air (ran setup xs) (reached setup xs .held) n (its-lesson setup xs n live) other in
+      let y = live-on-air (ran setup ys) (reached setup ys .held) n (its-lesson setup ys n live) other-too in
+      let alike = ap benchAir (low-alike setup xs ys e) in
+      record {
+        on = sym (x .on) ∙ ap (λ (a : Air). entryOf false (a .on) n) alike ∙ y .on;
+        leads = sym (x .leads) ∙ ap (λ (a : Air). entryOf false (a .leads) n) alike ∙ y .leads;
+      }
+
+  on-record : SameOnAir n (ran setup xs .air) (ran setup ys .air)
+  on-record = subst₂ (SameOnAir n) (sym (reached setup xs .right)) (sym (reached setup ys .right)) on-air
+
 pub lessons-apart : LessonsApart
 lessons-apart setup xs ys e =
     record {
@@ -128,7 +149,13 @@ lessons-apart setup xs ys e =
           sym (above-test-low (ran setup xs))
           ∙ ap (λ (x : Bench). liveAboveTest x seatNumbers) (low-alike setup xs ys e)
           ∙ above-test-low (ran setup ys);
+      together-after = λ c live.
+          sym (above-same (ran setup xs) c (reached setup xs) (its-lesson setup xs (named c) live))
+          ∙ ap (λ (x : Bench). liveAboveTest (step x c .bench) seatNumbers) (low-alike setup xs ys e)
+          ∙ above-same (ran setup ys) c (reached setup ys) (its-lesson setup ys (named c) live);
       same = λ c live.
           sym (compared-run setup xs c live) ∙ ap (λ (x : Bench). compared setup c (step x c)) (low-alike setup xs ys e) ∙ compared-run setup ys c live;
       no-lesson-audio = λ n p hidden up. no-lesson-audio (ran setup xs) n p (reached setup xs .held) (its-lesson setup xs n hidden) up;
+      on-air = on-air setup xs ys e;
+      on-record = on-record setup xs ys e;
     }

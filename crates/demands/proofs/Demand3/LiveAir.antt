@@ -114,14 +114,19 @@ off-the-first n (m ∷ l) h = simp (or-left (eqb m n) (among l n) h)
 off-both : (n : ℕ) (l m : List ℕ) → among l n ≡ false → among m n ≡ false → among (l ++ m) n ≡ false
 off-both n l m h g = simp (among-both l m n, h, g)
 
-pub off-air : (setup : Setup) (n : ℕ) (ks : List Keying) → among (seatsOf ks) n ≡ false → among (onAir setup ks) n ≡ false
-unfolding onAir leaders added
-off-air setup n ks h = off-both n (leaders setup ks) (added setup ks) (by-mode (setup .«equal_summation»)) (by-coupling (setup .«coupling_summation» && ltb couplingRank (topRank ks)))
+pub off-leaders : (setup : Setup) (n : ℕ) (ks : List Keying) → among (seatsOf ks) n ≡ false → among (leaders setup ks) n ≡ false
+unfolding leaders
+off-leaders setup n ks h = by-mode (setup .«equal_summation»)
   where
     by-mode : (t : Bool) → among (cond t (atRank (topRank ks) ks) (theFirst (atRank (topRank ks) ks))) n ≡ false
     by-mode true = off-at-rank n (topRank ks) ks h
     by-mode false = off-the-first n (atRank (topRank ks) ks) (off-at-rank n (topRank ks) ks h)
 
+pub off-air : (setup : Setup) (n : ℕ) (ks : List Keying) → among (seatsOf ks) n ≡ false → among (onAir setup ks) n ≡ false
+unfolding onAir added
+off-air setup n ks h =
+    off-both n (leaders setup ks) (added setup ks) (off-leaders setup n ks h) (by-coupling (setup .«coupling_summation» && ltb couplingRank (topRank ks)))
+  where
     by-coupling : (t : Bool) → among (cond t (atRank couplingRank ks) []) n ≡ false
     by-coupling true = off-at-rank n couplingRank ks h
     by-coupling false = unfold among in refl

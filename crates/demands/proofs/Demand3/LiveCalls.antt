@@ -3,9 +3,7 @@ use Prim.Native.Nat.{ℕ, suc}
 use mathlib.Core.Path.{_≡_, refl, ap, sym, subst}
 use mathlib.Core.Bool.{Bool, true, false}
 use mathlib.Core.List.{List, [], _∷_}
-use lib.Dec.{eqb}
 use lib.ListN.{getD}
-use Rattle.packet.specs.Packet.{test}
 use Rattle.packet.specs.Refusals.{Case, NoCase, accepted, judged, mapped}
 use Rattle.record.specs.Record.{seatOf, seatNumbers, noSuchSeat, closedSeat, lesson, withSide}
 use Rattle.air.specs.Air.{aired}
@@ -17,7 +15,7 @@ use Rattle.record.specs.declared.setup.Setup.{Setup}
 use Rattle.record.specs.declared.seat.Seat.{Seat}
 use Rattle.record.specs.declared.whole.Bench.{Bench}
 use Rattle.seats.specs.declared.opening.Request.{Request}
-use Rattle.demands.specs.Apart.{named, pttOf, liveAboveTest, fixed}
+use Rattle.demands.specs.Apart.{keysTest, liveAboveTest, fixed}
 use Rattle.demands.proofs.Demand3.Blanking.{blank, set-elsewhere}
 use Rattle.packet.proofs.Judged.{judged-both}
 use Rattle.record.proofs.Seats.{lesson-flag}
@@ -26,7 +24,7 @@ use Rattle.demands.proofs.Demand3.LessonSeats.{Meek, Held}
 
 -- what of the answer to a call is compared
 abbrev pub extent : Setup → Call → Outcome → Said → Said
-extent setup c o = fixed setup (liveAboveTest (o .bench) seatNumbers) (eqb (pttOf (o .bench) (named c)) test)
+extent setup c o = fixed setup (liveAboveTest (o .bench) seatNumbers) (keysTest c)
 
 -- l is what the bench without its lesson seats comes to where the bench comes to o
 pub record Match (setup : Setup) (c : Call) (o l : Outcome) : Type 0 where

@@ -3,9 +3,7 @@ use Prim.Native.Nat.{ℕ, _-_}
 use mathlib.Core.Path.{_≡_, refl, sym, ap, _∙_}
 use mathlib.Core.Bool.{Bool, true, false, cond}
 use mathlib.Core.List.{List, [], _∷_, _++_}
-use lib.Dec.{eqb}
 use lib.ListN.{getD}
-use Rattle.packet.specs.Packet.{test}
 use Rattle.packet.specs.Refusals.{Answer, accepted, refused, mapped}
 use Rattle.air.specs.Air.{benchAir}
 use Rattle.record.specs.Record.{seatNumbers, noSuchSeat, lesson, freshBench, settled}
@@ -14,8 +12,8 @@ use Rattle.reporting.specs.Reporting.{reportBytes, reportRefusals, reportSaid, 
 use Rattle.bench.specs.Step.{Call, packet, tick, report, Said, done, own, heard, ticked, written, totalled, Outcome, told, does, keeping, after}
 use Rattle.record.specs.declared.setup.Setup.{Setup}
 use Rattle.record.specs.declared.whole.Bench.{Bench}
-use Rattle.demands.specs.Apart.{named, withoutLessons, pttOf, liveAboveTest, recordsSeen, fixed, compared, Apart}
-use Rattle.demands.specs.Undisturbed.{audioSent, recordTo, Undisturbed}
+use Rattle.demands.specs.Apart.{named, withoutLessons, keysTest, liveAboveTest, recordsSeen, fixed, compared, audioSent, Apart}
+use Rattle.demands.specs.Undisturbed.{recordTo, Undisturbed}
 use Rattle.packet.proofs.Judged.{judged-one}
 use Rattle.demands.proofs.Demand3.WithoutLessons.{low, none-is-lesson}
 use Rattle.demands.proofs.Demand3.BenchAir.{up-is, air-low}
@@ -61,12 +59,12 @@ whole setup isTest tell h (refused n c) = refl
 
 packet-whole : (setup : Setup) (b : Bench) (n : ℕ) (p : List ℕ) → liveAboveTest (keeping b (packet n p) .bench) seatNumbers ≡ true
     → compared setup (packet n p) (keeping b (packet n p)) ≡ keeping b (packet n p) .answer
-unfolding compared does packetSaid named
-packet-whole setup b n p up = rw up (by-keying (eqb (pttOf (keeping b (packet n p) .bench) n) test))
+unfolding compared does packetSaid
+packet-whole setup b n p up = rw up (by-keying (keysTest (packet n p)))
   where
     by-keying : (isTest : Bool) → mapped (fixed setup true isTest) (keeping b (packet n p) .answer) ≡ keeping b (packet n p) .answer
-    by-keying true = whole setup true (told (packetSaid b n p) p) (λ x. unfold fixed in refl) (packetSaid b n p)
-    by-keying false = whole setup false (told (packetSaid b n p) p) (λ x. unfold fixed in refl) (packetSaid b n p)
+    by-keying true = whole setup true (told p) (λ x. unfold fixed in refl) (packetSaid b n p)
+    by-keying false = whole setup false (told p) (λ x. unfold fixed in refl) (packetSaid b n p)
 
 above-after-report : (b : Bench) (n timestamp : ℕ) (sound : List ℕ) (room : ℕ)
     → liveAboveTest (keeping b (report n timestamp sound room) .bench) seatNumbers ≡ liveAboveTest b seatNumbers
@@ -96,24 +94,11 @@ record-whole setup c n live o up = rw up (by-answer _ (o .answer))
     by-answer : (isTest : Bool) (a : Answer Said) → recordTo n (mapped (fixed setup true isTest) a) ≡ recordTo n a
     by-answer isTest (accepted done) = refl
     by-answer isTest (accepted (own id)) = refl
-    by-answer isTest (accepted (heard missing reply standby sound)) = refl
+    by-answer isTest (accepted (heard h sound)) = refl
     by-answer isTest (accepted (ticked closed due records)) = by-seat records (noSuchSeat n) refl
     by-answer isTest (accepted (written bytes)) = refl
     by-answer isTest (accepted (totalled packets missing)) = refl
     by-answer isTest (refused k cause) = refl
-
--- ---- no audio
-
-pub none-sent : (a : Answer Said) → ((missing : ℕ) (reply standby : Bool) (sound : List ℕ) → a ≡ accepted (heard missing reply standby sound) → sound ≡ [])
-    → audioSent a ≡ []
-unfolding audioSent
-none-sent (accepted done) h = refl
-none-sent (accepted (own id)) h = refl
-none-sent (accepted (heard missing reply standby sound)) h = h missing reply standby sound refl
-none-sent (accepted (ticked closed due records)) h = refl
-none-sent (accepted (written bytes)) h = refl
-none-sent (accepted (totalled packets missing)) h = refl
-none-sent (refused n cause) h = refl
 
 -- ---- the corollary
 
@@ -122,7 +107,7 @@ module _ (setup : Setup) (run : List Call) where
   apart = lessons-apart setup run (withoutLessons setup run) (sym (out-twice setup run))
 
   -- the condition after one more call, whoever makes it
-  pub together-then : (c : Call) → liveAboveTest (keeping (ran setup run) c .bench) seatNumbers
+  together-then : (c : Call) → liveAboveTest (keeping (ran setup run) c .bench) seatNumbers
       ≡ liveAboveTest (keeping (ran setup (withoutLessons setup run)) c .bench) seatNumbers
   together-then c =
       ap (λ (x : Bench). liveAboveTest x seatNumbers) (sym (after-one-more (freshBench setup) run c))
@@ -163,8 +148,8 @@ undisturbed setup run =
     by-seat : (n : ℕ) (p : List ℕ) → liveAboveTest (keeping (ran setup run) (packet n p) .bench) seatNumbers ≡ true → (t : Bool) → lesson setup n ≡ t
         → audioSent (keeping (ran setup run) (packet n p) .answer) ≡ audioSent (keeping (ran setup (withoutLessons setup run)) (packet n p) .answer)
     by-seat n p up true hidden =
-        none-sent _ (apart setup run .no-lesson-audio n p hidden up)
-        ∙ sym (none-sent _ (lessons-apart setup (withoutLessons setup run) run (out-twice setup run) .no-lesson-audio n p hidden (up-alone n p up)))
+        apart setup run .no-lesson-audio n p hidden up
+        ∙ sym (lessons-apart setup (withoutLessons setup run) run (out-twice setup run) .no-lesson-audio n p hidden (up-alone n p up))
     by-seat n p up false live =
         ap audioSent
         (sym (packet-whole setup (ran setup run) n p up)

@@ -11,20 +11,14 @@ use Rattle.writer.specs.Writing.{filled, writtenAnswer}
 use Rattle.seats.specs.Ticking.{silentSeats, dueSeats}
 use Rattle.hearing.specs.Account.{totalsSaid}
 use Rattle.hearing.specs.Answers.{totalsAnswer}
-use Rattle.hearing.specs.Hearing.{audioIn}
 use Rattle.reporting.specs.Reporting.{reportRefusals, reportSaid, reportBytes, reportBuffer}
 use Rattle.sending.specs.Sending.{tickRefusals, afterClosings, records, sentBytes, tickSaid, namedIn, tickSets, tickBuffer}
 use Rattle.bench.specs.Step.{Said, own, done, told, ticked, written, totals, counts, does, keeping}
 use Rattle.hearing.specs.declared.account.TotalsAnswer.{TotalsAnswer}
-use Rattle.hearing.specs.declared.hearing.Hearing.{Hearing}
 use Rattle.record.specs.declared.whole.Bench.{Bench}
-use Rattle.demands.specs.StepOfCode.{did, wasDone, heardWith, inFront, readBack, sentIn, StepOfCode}
+use Rattle.demands.specs.StepOfCode.{did, wasDone, inFront, readBack, sentIn, StepOfCode}
 use Rattle.packet.proofs.Judged.{judged-one}
 use Rattle.demands.proofs.Promises.ReadBack.{read-back}
-
--- the audio of the answer
-with-audio : (p : List ℕ) (answer said : Answer Hearing) → answer ≡ said → mapped (heardWith (audioIn answer p)) answer ≡ mapped (told said p) said
-with-audio p answer said e = ap (λ (a : Answer Hearing). mapped (heardWith (audioIn a p)) a) e
 
 -- the report is the front of its buffer
 module _ (b : Bench) (n timestamp : ℕ) (sound buffer : List ℕ) where
@@ -79,7 +73,7 @@ step-of-code = record {
   starts = λ k a r e p. p;
   opens = λ k a r e p. ap₂ did (ap (mapped own) (p .0)) (p .1);
   closes = λ k a r e p. ap₂ did (ap (mapped wasDone) (p .0)) (p .1);
-  hears = λ k a r e p. ap₂ did (with-audio _ _ _ (p .0)) (p .1);
+  hears = λ k a r e p. ap₂ did (ap (mapped (told (now (a .1 .1 .0)))) (p .0)) (p .1);
   hands-out = λ k a r e p. p .0;
   ticks = λ k a r e p.
       ap₂ did

@@ -1,4 +1,3 @@
-use mathlib.Core.Path.{refl}
 use Rattle.record.proofs.RecordLaws.{recordCases}
 use borrow.Author.Needs.{needs}
 use Rattle.hearing.proofs.hearing.on_air.Statement.{statement}
@@ -14,7 +13,7 @@ element-copy-out-result : tie.Need-element-copy-out-result
 element-copy-out-result c = search recordCases
 
 returns : tie.Need-returns
-returns c = refl
+returns c = simp (c .before .before .pre)
 
 pub on-air-spec : {M : Type 1} → statement M
 on-air-spec = tie.close (tie.spec sub-result cast-result element-copy-out-result returns)

@@ -1,7 +1,7 @@
 use mathlib.Core.Path.{refl, ap, sym, _∙_}
 use Rattle.packet.specs.Refusals.{accepted}
 use Rattle.air.specs.Air.{aired}
-use Rattle.hearing.proofs.PacketSteps.{packet-refused, packet-said, says, taken, seen, total-passed, is-whole, hearing-told}
+use Rattle.hearing.proofs.PacketSteps.{packet-refused, packet-said, says, taken, seen, total-passed, hearing-told}
 use borrow.Author.Needs.{needs}
 use Rattle.hearing.proofs.hearing.packet.Statement.{statement}
 use Rattle.hearing.proofs.hearing.packet.Tie as tie
@@ -33,12 +33,6 @@ heard-bench-requires c κs =
 aired-requires : tie.Need-aired-requires
 aired-requires c κs = search needs
 
-on-air-requires : tie.Need-on-air-requires
-on-air-requires c κs =
-    let m = c .before .before .before in
-    let a = m .before .before .before .before .before .before .before .args in
-    taken (a .t1) (a .n) (a .p .now) _ _ (m .before .before .before .before .place .ensures .0) refl _ (m .before .before .admitted .ensures) (m .told2 .given .1) .is-seat
-
 field-heard-requires : tie.Need-field-heard-requires
 field-heard-requires c κs = search needs
 
@@ -48,17 +42,11 @@ same-field-requires c κs = search needs
 missing-before-requires : tie.Need-missing-before-requires
 missing-before-requires c κs = search needs
 
-sent-at-requires : tie.Need-sent-at-requires
-sent-at-requires c κs =
-    let m = c .before .before .before .before .before .before .before .before .before in
+on-air-requires : tie.Need-on-air-requires
+on-air-requires c κs =
+    let m = c .before .before .before .before .before .before .before .before in
     let a = m .before .before .before .before .before .before .before .args in
-    is-whole (a .t1) (a .n) (a .p .now) _ _ (m .before .before .before .before .place .ensures .0) refl _ (m .before .before .admitted .ensures) (m .told2 .given .1)
-
-sent-length-requires : tie.Need-sent-length-requires
-sent-length-requires c κs =
-    let m = c .before .before .before .before .before .before .before .before .before .before in
-    let a = m .before .before .before .before .before .before .before .args in
-    is-whole (a .t1) (a .n) (a .p .now) _ _ (m .before .before .before .before .place .ensures .0) refl _ (m .before .before .admitted .ensures) (m .told2 .given .1)
+    taken (a .t1) (a .n) (a .p .now) _ _ (m .before .before .before .before .place .ensures .0) refl _ (m .before .before .admitted .ensures) (m .told2 .given .1) .is-seat
 
 returns : tie.Need-returns
 returns c =
@@ -69,12 +57,12 @@ returns c =
 
 returns-2 : tie.Need-returns-2
 returns-2 c =
-    let m = c .before .before .before .before .before .before .before .before .before .before .before in
+    let m = c .before .before .before .before .before .before .before .before .before in
     let a = m .before .before .before .before .before .before .before .args in
     let said = packet-said (a .t1) (a .n) (a .p .now) _ _ (m .before .before .before .before .place .ensures .0) refl _ (m .before .before .admitted .ensures) (m .told2 .given .1) in
     let is = says (a .t1) (a .n) (a .p .now) _ _ (m .before .before .before .before .place .ensures .0) refl _ (m .before .before .admitted .ensures) (m .told2 .given .1) in
-    let left = c .before .before .before .before .before .before .before .before .aired .ensures ∙ ap aired (c .before .before .before .before .before .before .before .before .before .heard-bench .ensures) in
-    let told = hearing-told (a .t1) (a .n) (a .p .now) (seen (a .t1) (a .n) (a .p .now) _ _ (m .before .before .before .before .place .ensures .0) refl _ (m .before .before .admitted .ensures) (m .told2 .given .1)) is left (c .before .before .before .before .before .before .before .on-air .ensures) (c .before .before .before .before .field-heard .ensures) (c .before .before .before .same-field .ensures) (c .before .before .missing-before .ensures) (c .before .sent-at .ensures) (c .sent-length .ensures) in
+    let left = c .before .before .before .before .before .before .aired .ensures ∙ ap aired (c .before .before .before .before .before .before .before .heard-bench .ensures) in
+    let told = hearing-told (a .t1) (a .n) (a .p .now) (seen (a .t1) (a .n) (a .p .now) _ _ (m .before .before .before .before .place .ensures .0) refl _ (m .before .before .admitted .ensures) (m .told2 .given .1)) is left (c .before .before .before .field-heard .ensures) (c .before .before .same-field .ensures) (c .before .missing-before .ensures) (c .on-air .ensures) in
     (ap accepted told ∙ sym said, simp (left, said, is))
 
 pub packet-spec : {M : Type 1} → statement M
@@ -89,11 +77,9 @@ packet-spec =
     enum-known-told-2
     heard-bench-requires
     aired-requires
-    on-air-requires
     field-heard-requires
     same-field-requires
     missing-before-requires
-    sent-at-requires
-    sent-length-requires
+    on-air-requires
     returns
     returns-2)
