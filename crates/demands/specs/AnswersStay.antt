@@ -1,4 +1,4 @@
--- 02, request 5: "Every answer stays as it was." Every answer of the bench that keeps its air (keeping) is the one that 01's definitions
+-- 02, request 5: "Every answer stays as it was": of the bench that keeps its air (keeping) it is the one that 01's definitions
 -- give where who is on the air is worked out afresh at each report (step).
 use mathlib.Core.Path.{_≡_}
 use mathlib.Core.List.{List}

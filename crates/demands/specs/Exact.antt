@@ -1,4 +1,4 @@
--- Demand 1: "Each refusal comes in exactly the case document 01 gives."
+-- Demand 1: "Each refusal comes in exactly the case document 01 gives for it, and changes neither the bench nor a byte of any buffer."
 -- So: refused with n exactly if n's case holds and no earlier case of the list does; accepted exactly if none holds.
 use Prim.Native.Nat.{ℕ}
 use mathlib.Core.Path.{_≡_}

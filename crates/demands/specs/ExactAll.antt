@@ -1,4 +1,4 @@
--- Demand 1: "Each refusal comes in exactly the case document 01 gives." The readers, the writers and every call under one
+-- Demand 1: "Each refusal comes in exactly the case document 01 gives for it". The readers, the writers and every call under one
 -- theorem, in 01's orders; and each of the 27 numbers, and 02's 33, has its place in them.
 use Prim.Native.Nat.{ℕ, zero, suc, _+_, _-_}
 use mathlib.Core.Path.{_≡_}

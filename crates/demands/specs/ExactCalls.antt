@@ -1,4 +1,4 @@
--- Demand 1: "Each refusal comes in exactly the case document 01 gives", and a refusal changes neither the bench nor a byte.
+-- Demand 1: "Each refusal comes in exactly the case document 01 gives for it, and changes neither the bench nor a byte of any buffer."
 -- So of every call, on every bench.
 use Prim.Native.Nat.{ℕ}
 use mathlib.Core.Path.{_≡_}

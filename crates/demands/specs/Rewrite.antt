@@ -1,4 +1,4 @@
--- Demand 2: "An accepted packet in 01's plain form is rewritten to the same bytes"; since 02, request 1, "for plain packets without"
+-- Demand 2: ".. an accepted packet in 01's plain form is rewritten to the same bytes"; since 02, request 1, "for plain packets without"
 -- a type 4 item. And no other accepted packet is.
 use Prim.Native.Nat.{ℕ, _≤_}
 use mathlib.Core.Path.{_≡_}

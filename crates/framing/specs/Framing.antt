@@ -1,5 +1,5 @@
--- 003, table 5, after RFC 4571: "length (an unsigned integer, in network byte order, equal to the number of octets of the RTP or RTCP
--- packet)" in bytes 0 and 1, and then the packet.
+-- 003, table 5, after RFC 4571 (our translation): in bytes 0 and 1 the length, an unsigned integer in network byte order, as many as the RTP
+-- or RTCP packet has octets, and then the packet.
 use Prim.Native.Nat.{ℕ, _<_}
 use mathlib.Core.Path.{_≡_}
 use mathlib.Core.List.{List, _++_}

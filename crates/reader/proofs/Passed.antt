@@ -101,4 +101,3 @@ payload-most kind n e = by-kind (eqb kind 8) e
 pub payload-length : (p : List ℕ) → length (payload p) ≡ length p - payloadAt p
 unfolding payload
 payload-length p = simp length-drop
-
