@@ -13,6 +13,9 @@ pub mod Laid
 pub mod RoundTrip
 pub mod Accepted
 pub mod Rewrite
+pub mod KeptItems
+pub mod LaidOut
+pub mod Unwritable
 pub mod SteppedOver
 pub mod BothWays
 pub mod Examples

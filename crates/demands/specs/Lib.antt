@@ -5,6 +5,8 @@ pub mod ExactAll
 pub mod Plain
 pub mod Inversion
 pub mod RoundTrip
+pub mod LaidOut
+pub mod Unwritable
 pub mod Rewrite
 pub mod SteppedOver
 pub mod Examples

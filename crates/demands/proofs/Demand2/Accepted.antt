@@ -20,9 +20,10 @@ use Rattle.packet.specs.declared.message.SqiItem.{SqiItem}
 use Rattle.packet.specs.declared.message.ClimaxItem.{ClimaxItem}
 use Rattle.packet.specs.declared.message.Message.{Message}
 use Rattle.demands.specs.RoundTrip.{Narrow}
+use Rattle.demands.specs.LaidOut.{AllStand}
 use Rattle.reader.proofs.Passed.{Passed, accepted-passed, field-passed}
 use Rattle.demands.proofs.Demand2.Inversion.{after-bytes}
-use Rattle.demands.proofs.Demand2.AllowedItems.{AllStand, here-stand, sqi-writable, climax-writable, no-sqi-in-tx, no-climax-in-rx}
+use Rattle.demands.proofs.Demand2.AllowedItems.{here-stand, sqi-writable, climax-writable, no-sqi-in-tx, no-climax-in-rx}
 use Rattle.demands.proofs.Demand2.Laid.{Says}
 
 -- ---- the kind and the payload
@@ -76,7 +77,7 @@ module _ (d : Direction) (ext : ℕ) (p : List ℕ) (small : Bytes p) (h : Passe
 -- ---- what its direction can say
 
 -- refusals 10 and 11 leave nothing else
-message-says : (d : Direction) (ext : ℕ) (p : List ℕ) → Bytes p → Passed d ext p → Says d (messageOf p)
+pub message-says : (d : Direction) (ext : ℕ) (p : List ℕ) → Bytes p → Passed d ext p → Says d (messageOf p)
 unfolding messageOf kept itemsHere
 message-says Tx ext p small h =
     let f = field p in

@@ -5,7 +5,7 @@ use mathlib.Core.Bool.{Bool, true, false, cond, _&&_, _||_, false≢true}
 use mathlib.Core.List.{List, [], _∷_}
 use native.Mathlib.Omega.{arith}
 use lib.Dec.{ltb, leb, eqb}
-use borrow.Author.Tests.{ltb-true, ltb-false, eqb-true, le-leb}
+use borrow.Author.Tests.{ltb-true, ltb-false, leb-true, eqb-true, le-leb, eq-eqb}
 use lib.ListN.{length, take, length-take}
 use Rattle.base.specs.Bytes.{byteAt, bytes8, placed, Bytes}
 use Rattle.base.proofs.Truths.{and-left, and-right}
@@ -19,29 +19,37 @@ use Rattle.packet.specs.declared.message.SideItem.{SideItem}
 use Rattle.packet.specs.declared.message.SideItem.the-variants as side
 use Rattle.packet.specs.declared.message.Items.{Items}
 use Rattle.demands.specs.Plain.{Rising}
+use Rattle.demands.specs.LaidOut.{SqiValue, Stands, a-quality, a-delay, main, standby, stepped-over, AllStand}
 use Rattle.demands.proofs.Demand2.Items.{tail-bytes}
 use Rattle.demands.proofs.Demand2.Inversion.{take-bytes}
 use Rattle.demands.proofs.Demand2.ItemsBack.{AllWrite}
-use Rattle.demands.proofs.Demand2.RisingItems.{sqi-value, climax-value, rising-kept}
+use Rattle.demands.proofs.Demand2.RisingItems.{method-least, quality-least, sqi-value, climax-value, rising-kept}
 
--- the table of items, line by line
-pub data Stands : Direction → Item → Type 0 where
-  a-quality : (q m : ℕ) → sqiAllowed q m ≡ true → Stands Rx (record { type = 1; value = bytes8 (placed 8 0 5 q + placed 8 5 3 m) })
-  a-delay : (v : ℕ) → leb v 127 ≡ true → Stands Tx (record { type = 2; value = bytes8 (placed 8 0 1 1 + placed 8 1 7 v) })
-  main : (d : Direction) → Stands d (record { type = 5; value = bytes8 (placed 8 0 1 0) })
-  standby : (d : Direction) → Stands d (record { type = 5; value = bytes8 (placed 8 0 1 1) })
-  stepped-over : (d : Direction) (v : List ℕ) → length v < 16 → Stands d (record { type = 4; value = v })
+-- ---- what a line of the table asks
 
-abbrev pub AllStand : Direction → List Item → Type 0
-AllStand d [] = Unit {0}
-AllStand d (i ∷ is) = Stands d i × AllStand d is
+pub sqi-allowed : (q m : ℕ) → SqiValue q m → sqiAllowed q m ≡ true
+sqi-allowed q m h = by-rssi (eqb m 0) refl
+  where
+    by-rssi : (t : Bool) → eqb m 0 ≡ t → leb m 3 && leb q (cond t 15 31) ≡ true
+    by-rssi true e = simp (le-leb m 3 (h .known), le-leb q 15 (h .with-rssi (eqb-true m 0 e)))
+    by-rssi false e = simp (le-leb m 3 (h .known), le-leb q 31 (h .most))
+
+sqi-may-stand : (q m : ℕ) → sqiAllowed q m ≡ true → SqiValue q m
+sqi-may-stand q m e =
+    record {
+      known = method-least q m e;
+      most = quality-least q m e;
+      with-rssi = λ z. leb-true q 15 (sym (ap (λ (t : Bool). leb q (cond t 15 31)) (eq-eqb m 0 z)) ∙ and-right (leb m 3) _ e);
+    }
 
 -- ---- what the message keeps of them
 
 pub sqi-writable : (d : Direction) (is : List Item) → AllStand d is → sqiWritable (sqiAmong is) ≡ true
 unfolding sqiAmong
 sqi-writable d [] h = refl
-sqi-writable Rx (_ ∷ is) (a-quality q m h, s) = simp (sqi-value q m h .0, sqi-value q m h .1, h)
+sqi-writable Rx (_ ∷ is) (a-quality q m h, s) =
+    let e = sqi-allowed q m h in
+    simp (sqi-value q m e .0, sqi-value q m e .1, e)
 sqi-writable Tx (_ ∷ is) (a-delay v h, s) = sqi-writable Tx is s
 sqi-writable d (_ ∷ is) (main _, s) = sqi-writable d is s
 sqi-writable d (_ ∷ is) (standby _, s) = sqi-writable d is s
@@ -51,7 +59,7 @@ pub climax-writable : (d : Direction) (is : List Item) → AllStand d is → cli
 unfolding climaxAmong
 climax-writable d [] h = refl
 climax-writable Rx (_ ∷ is) (a-quality q m h, s) = climax-writable Rx is s
-climax-writable Tx (_ ∷ is) (a-delay v h, s) = simp (climax-value v h .0, h)
+climax-writable Tx (_ ∷ is) (a-delay v h, s) = simp (climax-value v (le-leb v 127 h) .0, le-leb v 127 h)
 climax-writable d (_ ∷ is) (main _, s) = climax-writable d is s
 climax-writable d (_ ∷ is) (standby _, s) = climax-writable d is s
 climax-writable d (_ ∷ is) (stepped-over _ v h, s) = climax-writable d is s
@@ -143,7 +151,7 @@ rising-listed Rx (i ∷ is) (a-quality q m h, s) n r =
     let e = side-alone Rx is s n (on .0) (on .1) in
     record {
       items = record { sqi = sqi.Is q m; climax = climax.Absent; side = e .0 };
-      sqi-fits = h;
+      sqi-fits = sqi-allowed q m h;
       climax-fits = refl;
       are = ap (λ (js : List Item). i ∷ js) (e .1);
     }
@@ -153,7 +161,7 @@ rising-listed Tx (i ∷ is) (a-delay v h, s) n r =
     record {
       items = record { sqi = sqi.Absent; climax = climax.Is v; side = e .0 };
       sqi-fits = refl;
-      climax-fits = h;
+      climax-fits = le-leb v 127 h;
       are = ap (λ (js : List Item). i ∷ js) (e .1);
     }
 rising-listed d (i ∷ is) (main _, s) n r = from-side (side-alone d (i ∷ is) (main d, s) n (own-below-side d) r)
@@ -200,14 +208,14 @@ module _ (i : Item) (read : Short (i .value)) where
   quality-stands Tx e = absurd (false≢true (and-right (isOne 1) false (and-left (isOne 1 && false) _ e)))
   quality-stands Rx e =
       stood Rx 1 (placed 8 0 5 (sqiQuality v) + placed 8 5 3 (sqiMethod v)) (and-left _ true (and-left (isOne 1 && true) _ e)) (omega (arith, small))
-      (a-quality (sqiQuality v) (sqiMethod v) (and-right (isOne 1 && true) _ e))
+      (a-quality (sqiQuality v) (sqiMethod v) (sqi-may-stand (sqiQuality v) (sqiMethod v) (and-right (isOne 1 && true) _ e)))
 
   delay-stands : (d : Direction) → isOne 2 && inTx d && climaxAllowed v ≡ true → Stands d i
   delay-stands Rx e = absurd (false≢true (and-right (isOne 2) false (and-left (isOne 2 && false) _ e)))
   delay-stands Tx e =
       let high = eqb-true (v / 128 % 2) 1 (and-right (isOne 2 && true) _ e) in
       stood Tx 2 (placed 8 0 1 1 + placed 8 1 7 (climaxDelay v)) (and-left _ true (and-left (isOne 2 && true) _ e)) (omega (arith, small))
-      (a-delay (climaxDelay v) (le-leb (climaxDelay v) 127 (omega arith)))
+      (a-delay (climaxDelay v) (omega arith))
 
   side-stands : (d : Direction) → isOne 5 && sideAllowed v ≡ true → Stands d i
   side-stands d e = by-half (ltb v 128) refl
@@ -221,7 +229,7 @@ module _ (i : Item) (read : Short (i .value)) where
 
   ddc-stands : (d : Direction) → eqb (i .type) 4 ≡ true → Stands d i
   ddc-stands d e =
-      subst (λ (t : ℕ). Stands d (record { type = t; value = i .value })) (sym (eqb-true (i .type) 4 e)) (stepped-over d (i .value) (read .fits))
+      subst (λ (t : ℕ). Stands d (record { type = t; value = i .value })) (sym (eqb-true (i .type) 4 e)) (stepped-over d (i .value) (omega (arith, read .fits)))
 
   allowed-stands : (d : Direction) → itemAllowed d i ≡ true → Stands d i
   unfolding itemAllowed

@@ -5,10 +5,10 @@ use mathlib.Core.Bool.{Bool, true, false, _&&_, _||_}
 use mathlib.Core.List.{List, _++_, append-assoc}
 use native.Mathlib.Omega.{arith}
 use lib.Dec.{eqb}
-use borrow.Author.Tests.{eq-eqb}
+use borrow.Author.Tests.{le-leb, eq-eqb}
 use lib.ListN.{length, replicate, length-append, length-replicate}
 use Rattle.base.specs.Bytes.{bytes16}
-use Rattle.packet.specs.Packet.{x, audioType, r2sType, fieldAllowed, payloadAllowed, payload}
+use Rattle.packet.specs.Packet.{x, audioType, r2sType, pttAllowed, fieldAllowed, payloadAllowed, payload}
 use Rattle.packet.specs.Items.{Item, kept, allAllowed, noTypeTwice, itemsAllowed, itemsOf}
 use Rattle.packet.specs.Refusals.{Case, accepted, judged}
 use Rattle.reader.specs.Reading.{messageOf, itemsHere, read, readerRefusals}
@@ -20,15 +20,20 @@ use Rattle.packet.specs.declared.message.ClimaxItem.the-variants as climax
 use Rattle.packet.specs.declared.message.Message.{Message}
 use Rattle.demands.specs.Inversion.{laid, Holds}
 use Rattle.demands.specs.RoundTrip.{Narrow}
+use Rattle.demands.specs.LaidOut.{SaidInField}
 use Rattle.demands.proofs.Demand2.ItemsBack.{AllWrite, list-back, allowed-back}
 use Rattle.demands.proofs.Demand2.Parts.{heads, HasParts, composed, has-parts}
 use Rattle.demands.proofs.Demand2.ReadBack.{casesLeft, cases-are, message-made}
-use Rattle.demands.proofs.Demand2.Written.{bit-set, SaysOf, field-written, allowed-in-tx, allowed-in-rx}
+use Rattle.demands.proofs.Demand2.Written.{bit-set, SaysOf, field-written, field-by-type}
 
 -- a message of a direction: what its packets cannot say is off or absent
 abbrev pub Says : Direction → Message → Type 0
 Says Tx m = (m .squ ≡ false) × (m .sct ≡ false) × (m .items .sqi ≡ sqi.Absent)
 Says Rx m = m .items .climax ≡ climax.Absent
+
+pub said-in-field : (d : Direction) (m : Message) → Says d m → SaidInField d m
+said-in-field Tx m s = (s .0, s .1)
+said-in-field Rx m s = tt
 
 -- parts that fit their bytes
 pub record Fit (csrc : List ℕ) (kind ext words : ℕ) (m : Message) (is : List Item) : Type 0 where
@@ -36,7 +41,7 @@ pub record Fit (csrc : List ℕ) (kind ext words : ℕ) (m : Message) (is : List
   pub few : length csrc / 4 ≤ 15
   pub kind-narrow : kind < 128
   pub narrow : Narrow ext m
-  pub ptt : m .ptt ≤ 5
+  pub ptt : m .ptt ≤ 7
   pub id : m .id ≤ 63
   pub writes : AllWrite is
   pub room : Holds words is
@@ -98,14 +103,13 @@ module _ (csrc : List ℕ) (kind ext words : ℕ) (m : Message) (is : List Item)
       cases-are d p _ _ _ _ _ _ _ _ _ _ parts asked (omega (arith, h .room .0)) (h .room .1)
       ∙ ap (λ (t : Bool). casesLeft asked kind ext (fieldAllowed d (fieldOf m is)) t (payloadAllowed kind (length sound))) (items-allowed d)
 
-  field-allowed : (d : Direction) → Says d m → fieldAllowed d (fieldOf m is) ≡ true
-  field-allowed Tx s = allowed-in-tx (fieldOf m is) m is says (h .ptt) (s .0) (s .1)
-  field-allowed Rx s = allowed-in-rx (fieldOf m is) m is says (h .ptt)
+  pub field-allowed : (d : Direction) → SaidInField d m → fieldAllowed d (fieldOf m is) ≡ pttAllowed (m .ptt)
+  field-allowed d s = field-by-type d (fieldOf m is) m is says s
 
-  pub read-back : (d : Direction) → Says d m → allAllowed d is ≡ true → noTypeTwice is ≡ true → kept is ≡ m .items
+  pub read-back : (d : Direction) → m .ptt ≤ 5 → SaidInField d m → allAllowed d is ≡ true → noTypeTwice is ≡ true → kept is ≡ m .items
       → (eqb kind audioType || eqb kind r2sType) ≡ true → payloadAllowed kind (length sound) ≡ true → read d ext p ≡ accepted m
   unfolding read
-  read-back d s a t keeps known fine =
+  read-back d real s a t keeps known fine =
       ap (λ (cs : List Case). judged cs (messageOf p)) (cases d ext)
-      ∙ (simp (known, eq-eqb ext ext refl, field-allowed d s, a, t, fine))
+      ∙ (simp (known, eq-eqb ext ext refl, field-allowed d s, le-leb (m .ptt) 5 real, a, t, fine))
       ∙ ap accepted (message-back keeps)

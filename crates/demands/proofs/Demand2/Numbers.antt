@@ -26,7 +26,7 @@ pub record FieldSays (f ptt squelch id muted summed several items : ℕ) : Type 
   pub tx-reserved : reserved Tx f ≡ 4 * several
   pub rx-reserved : reserved Rx f ≡ 0
 
-pub field-says : (ptt squ id pm ptts sct x : ℕ) → ptt ≤ 5 → squ ≤ 1 → id ≤ 63 → pm ≤ 1 → ptts ≤ 1 → sct ≤ 1 → x ≤ 1
+pub field-says : (ptt squ id pm ptts sct x : ℕ) → ptt ≤ 7 → squ ≤ 1 → id ≤ 63 → pm ≤ 1 → ptts ≤ 1 → sct ≤ 1 → x ≤ 1
     → FieldSays (placed 16 0 3 ptt + placed 16 3 1 squ + placed 16 4 6 id + placed 16 10 1 pm + placed 16 11 1 ptts + placed 16 12 1 sct + placed 16 15 1 x)
     ptt squ id pm ptts sct x
 field-says ptt squ id pm ptts sct x hptt hsqu hid hpm hptts hsct hx = omega arith

@@ -69,7 +69,7 @@ rewrite d ext p m small e =
     subst (Rewritten ext p) (known .1) (rewritten d ext p small (known .0))
 
 -- a value made from a value was made from an accepted one
-from-mapped : {A B : Type 0} (f : A → B) (a : Answer A) (b : B) → mapped f a ≡ accepted b → (m : A) × (a ≡ accepted m) × (f m ≡ b)
+pub from-mapped : {A B : Type 0} (f : A → B) (a : Answer A) (b : B) → mapped f a ≡ accepted b → (m : A) × (a ≡ accepted m) × (f m ≡ b)
 from-mapped f (accepted m) b e = (m, refl, cc)
 from-mapped f (refused n c) b e = absurd (never b n c (sym e))
 

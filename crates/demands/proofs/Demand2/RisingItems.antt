@@ -1,11 +1,11 @@
 -- The items of a message, written by rising type: they fit their bytes, they may stand there, and the message keeps them.
 use Prim.Native.Nat.{ℕ, _+_, _*_, _/_, _%_, _≤_}
 use mathlib.Core.Path.{_≡_, refl}
-use mathlib.Core.Bool.{Bool, true, false, cond}
+use mathlib.Core.Bool.{Bool, true, false, cond, _&&_}
 use mathlib.Core.List.{List, _++_}
 use native.Mathlib.Omega.{arith}
-use lib.Dec.{leb, eqb}
-use borrow.Author.Tests.{leb-true}
+use lib.Dec.{ltb, leb, eqb}
+use borrow.Author.Tests.{ltb-true, leb-true, lt-ltb}
 use Rattle.packet.specs.Items.{Item, ddcType, sqiAllowed, itemAllowed, allAllowed, hasType, noTypeTwice, sqiAmong, climaxAmong, sideAmong, kept}
 use Rattle.writer.specs.Writing.{sqiListed, climaxListed, sideListed, risingItems, sqiWritable, climaxWritable}
 use Rattle.packet.specs.declared.message.Direction.the-variants.{Tx, Rx}
@@ -16,8 +16,9 @@ use Rattle.packet.specs.declared.message.ClimaxItem.the-variants as climax
 use Rattle.packet.specs.declared.message.SideItem.{SideItem}
 use Rattle.packet.specs.declared.message.SideItem.the-variants as side
 use Rattle.packet.specs.declared.message.Items.{Items}
-use Rattle.base.proofs.Truths.{and-left, and-right}
+use Rattle.base.proofs.Truths.{and-left, and-right, and-true, or-none}
 use Rattle.demands.specs.Plain.{Rising}
+use Rattle.demands.specs.Unwritable.{sqiFits}
 use Rattle.demands.proofs.Demand2.ItemsBack.{AllWrite}
 
 -- no type twice, none of type 4, by rising type
@@ -26,22 +27,31 @@ Orderly is = (noTypeTwice is ≡ true) × (hasType ddcType is ≡ false) × Risi
 
 -- ---- the value bytes
 
-method-least : (q m : ℕ) → sqiAllowed q m ≡ true → m ≤ 3
+pub method-least : (q m : ℕ) → sqiAllowed q m ≡ true → m ≤ 3
 method-least q m e = leb-true m 3 (and-left (leb m 3) _ e)
 
-quality-least : (q m : ℕ) → sqiAllowed q m ≡ true → q ≤ 31
+pub quality-least : (q m : ℕ) → sqiAllowed q m ≡ true → q ≤ 31
 quality-least q m e = by-method (eqb m 0) (and-right (leb m 3) _ e)
   where
     by-method : (t : Bool) → leb q (cond t 15 31) ≡ true → q ≤ 31
     by-method true h = omega (arith, leb-true q 15 h)
     by-method false h = leb-true q 31 h
 
-pub sqi-value : (q m : ℕ) → sqiAllowed q m ≡ true
-    → ((q * 8 + m * 1) % 256 / 8 % 32 ≡ q) × ((q * 8 + m * 1) % 256 / 1 % 8 ≡ m)
-sqi-value q m e =
-    let a = method-least q m e in
-    let b = quality-least q m e in
+-- values that fit their bits stand in them
+sqi-placed : (q m : ℕ) → ltb q 32 && ltb m 8 ≡ true → ((q * 8 + m * 1) % 256 / 8 % 32 ≡ q) × ((q * 8 + m * 1) % 256 / 1 % 8 ≡ m)
+sqi-placed q m e =
+    let a = ltb-true q 32 (and-left (ltb q 32) _ e) in
+    let b = ltb-true m 8 (and-right (ltb q 32) _ e) in
     omega arith
+
+-- what may stand there fits
+pub sqi-fits : (s : SqiItem) → sqiWritable s ≡ true → sqiFits s ≡ true
+sqi-fits sqi.Absent h = refl
+sqi-fits (sqi.Is q m) h =
+    simp (lt-ltb q 32 (omega (arith, quality-least q m h)), lt-ltb m 8 (omega (arith, method-least q m h)))
+
+pub sqi-value : (q m : ℕ) → sqiAllowed q m ≡ true → ((q * 8 + m * 1) % 256 / 8 % 32 ≡ q) × ((q * 8 + m * 1) % 256 / 1 % 8 ≡ m)
+sqi-value q m e = sqi-placed q m (sqi-fits (sqi.Is q m) e)
 
 pub climax-value : (v : ℕ) → leb v 127 ≡ true → ((128 + v * 1) % 256 / 1 % 128 ≡ v) × ((128 + v * 1) % 256 / 128 % 2 ≡ 1)
 climax-value v e = let h = leb-true v 127 e in omega arith
@@ -116,14 +126,14 @@ in-tx (climax.Is v) side.Absent h = simp (climax-value v h .1)
 in-tx (climax.Is v) side.Main h = simp (climax-value v h .1)
 in-tx (climax.Is v) side.Standby h = simp (climax-value v h .1)
 
-in-rx : (s : SqiItem) (e : SideItem) → sqiWritable s ≡ true → allAllowed Rx (sqiListed s ++ climaxListed climax.Absent ++ sideListed e) ≡ true
+in-rx : (s : SqiItem) (e : SideItem) → sqiFits s ≡ true → allAllowed Rx (sqiListed s ++ climaxListed climax.Absent ++ sideListed e) ≡ sqiWritable s
 unfolding allAllowed itemAllowed
 in-rx sqi.Absent side.Absent h = refl
 in-rx sqi.Absent side.Main h = refl
 in-rx sqi.Absent side.Standby h = refl
-in-rx (sqi.Is q m) side.Absent h = simp (sqi-value q m h .0, sqi-value q m h .1, h)
-in-rx (sqi.Is q m) side.Main h = simp (sqi-value q m h .0, sqi-value q m h .1, h)
-in-rx (sqi.Is q m) side.Standby h = simp (sqi-value q m h .0, sqi-value q m h .1, h)
+in-rx (sqi.Is q m) side.Absent h = simp (sqi-placed q m h .0, sqi-placed q m h .1, or-none, and-true)
+in-rx (sqi.Is q m) side.Main h = simp (sqi-placed q m h .0, sqi-placed q m h .1, or-none, and-true)
+in-rx (sqi.Is q m) side.Standby h = simp (sqi-placed q m h .0, sqi-placed q m h .1, or-none, and-true)
 
 -- ---- the same, of a message's items
 
@@ -152,6 +162,6 @@ pub rising-in-tx : (k : Items) → k .sqi ≡ sqi.Absent → climaxWritable (k .
 unfolding risingItems
 rising-in-tx k e h = simp e (in-tx (k .climax) (k .side) h)
 
-pub rising-in-rx : (k : Items) → k .climax ≡ climax.Absent → sqiWritable (k .sqi) ≡ true → allAllowed Rx (risingItems k) ≡ true
+pub rising-in-rx : (k : Items) → k .climax ≡ climax.Absent → sqiFits (k .sqi) ≡ true → allAllowed Rx (risingItems k) ≡ sqiWritable (k .sqi)
 unfolding risingItems
 rising-in-rx k e h = simp e (in-rx (k .sqi) (k .side) h)

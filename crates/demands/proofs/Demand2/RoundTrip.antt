@@ -1,5 +1,5 @@
 -- What the writers write reads back as the same message, with the same audio, and is plain.
-use Prim.Native.Nat.{ℕ}
+use Prim.Native.Nat.{ℕ, _≤_}
 use mathlib.Core.Path.{_≡_, refl, ap, sym, _∙_}
 use mathlib.Core.Bool.{true}
 use mathlib.Core.List.{List, []}
@@ -21,9 +21,9 @@ use Rattle.reporting.specs.Reporting.{reportOf, reportRefusals, reportSaid, rep
 use Rattle.reporting.proofs.Accepted.{report-accepted}
 use Rattle.reporting.proofs.Told.{report-writable}
 use Rattle.writer.proofs.Words.{few-words}
-use Rattle.demands.proofs.Demand2.RisingItems.{rising-writes, rising-kept, rising-once, rising-rises, no-ddc, rising-in-tx, rising-in-rx}
+use Rattle.demands.proofs.Demand2.RisingItems.{sqi-fits, rising-writes, rising-kept, rising-once, rising-rises, no-ddc, rising-in-tx, rising-in-rx}
 use Rattle.demands.proofs.Demand2.Written.{Writable, writable-is, kind-allowed, kind-narrow, sound-allowed, itemsFor}
-use Rattle.demands.proofs.Demand2.Laid.{Says, Fit}
+use Rattle.demands.proofs.Demand2.Laid.{Says, said-in-field, Fit}
 use Rattle.demands.proofs.Demand2.Laid as of-laid
 
 -- laid out with no CSRC words, and with the kind, the words and the items that the writer chooses
@@ -32,32 +32,37 @@ pub laid-plain : (ext : ℕ) (m : Message) (sound : List ℕ)
 unfolding laid encode headOf wordsOf
 laid-plain ext m sound = refl
 
+-- which fit their bytes, whether or not the writer takes them
+pub fit-plain : (ext : ℕ) (m : Message) (sound : List ℕ) → Narrow ext m → m .ptt ≤ 7 → m .id ≤ 63
+    → Fit [] (kindFor (length sound)) ext (fewestWords (itemsFor m)) m (itemsFor m)
+fit-plain ext m sound narrow ptt id =
+    record {
+      whole = refl;
+      few = omega arith;
+      kind-narrow = kind-narrow (length sound);
+      narrow = narrow;
+      ptt = ptt;
+      id = id;
+      writes = rising-writes (m .items);
+      room = (omega arith, omega (arith, few-words (m .items)));
+    }
+
 module _ (ext : ℕ) (m : Message) (sound : List ℕ) (narrow : Narrow ext m) (fine : writable m (length sound) ≡ true) where
   passed : Writable m (length sound)
   passed = writable-is m (length sound) fine
 
   fit : Fit [] (kindFor (length sound)) ext (fewestWords (itemsFor m)) m (itemsFor m)
-  fit =
-      record {
-        whole = refl;
-        few = omega arith;
-        kind-narrow = kind-narrow (length sound);
-        narrow = narrow;
-        ptt = passed .ptt;
-        id = passed .id;
-        writes = rising-writes (m .items);
-        room = (omega arith, omega (arith, few-words (m .items)));
-      }
+  fit = fit-plain ext m sound narrow (omega (arith, passed .ptt)) (passed .id)
 
   types-allowed : (d : Direction) → Says d m → allAllowed d (itemsFor m) ≡ true
   types-allowed Tx s = rising-in-tx (m .items) (s .2) (passed .climax)
-  types-allowed Rx s = rising-in-rx (m .items) s (passed .sqi)
+  types-allowed Rx s = rising-in-rx (m .items) s (sqi-fits (m .items .sqi) (passed .sqi)) ∙ passed .sqi
 
   pub read-back : (d : Direction) → Says d m → read d ext (encode ext m sound) ≡ accepted m
   read-back d s =
       ap (read d ext) (sym (laid-plain ext m sound))
-      ∙ of-laid.read-back [] _ ext _ m (itemsFor m) sound fit d s (types-allowed d s) (rising-once (m .items)) (rising-kept (m .items) (passed .sqi) (passed .climax))
-      (kind-allowed (length sound)) (sound-allowed (length sound) (passed .sound))
+      ∙ of-laid.read-back [] _ ext _ m (itemsFor m) sound fit d (passed .ptt) (said-in-field d m s) (types-allowed d s) (rising-once (m .items))
+      (rising-kept (m .items) (passed .sqi) (passed .climax)) (kind-allowed (length sound)) (sound-allowed (length sound) ∙ passed .sound)
 
   pub sound-back : payload (encode ext m sound) ≡ sound
   sound-back = ap payload (sym (laid-plain ext m sound)) ∙ of-laid.sound-back [] _ ext _ m (itemsFor m) sound fit

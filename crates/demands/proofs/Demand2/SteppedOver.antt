@@ -233,7 +233,7 @@ module _ (d : Direction) (ext : ℕ) (p : List ℕ) (small : Bytes p) (h : Passe
         few = omega arith;
         kind-narrow = omega arith;
         narrow = subst (λ (e : ℕ). Narrow e m) (sym (h .type-is)) (numbers-fit d ext p small h);
-        ptt = fine .ptt;
+        ptt = omega (arith, fine .ptt);
         id = fine .id;
         writes = w;
         room = room;

@@ -7,18 +7,19 @@ use native.Mathlib.Omega.{arith}
 use lib.ListN.{length, take, drop}
 use lib.Seq.{take-at}
 use lib.Dec.{leb, eqb}
-use borrow.Author.Tests.{leb-true, le-leb, not-false}
+use borrow.Author.Tests.{leb-true, not-false}
 use Rattle.base.specs.Bytes.{isSet, bit}
-use Rattle.packet.specs.Packet.{audioLength, payloadAllowed, fieldAllowed}
+use Rattle.packet.specs.Packet.{audioLength, payloadAllowed, pttAllowed, fieldAllowed}
 use Rattle.packet.specs.Items.{Item, someItem}
 use Rattle.packet.specs.Refusals.{Answer}
-use Rattle.writer.specs.Writing.{risingItems, fieldOf, kindFor, encode, sqiWritable, climaxWritable, writable, writerRefusals, write, filled, buffered}
+use Rattle.writer.specs.Writing.{risingItems, fieldOf, kindFor, encode, sqiWritable, climaxWritable, audioWritable, writable, writerRefusals, write, filled, buffered}
 use Rattle.packet.specs.declared.message.Direction.{Direction}
 use Rattle.packet.specs.declared.message.Direction.the-variants.{Tx, Rx}
 use Rattle.packet.specs.declared.message.Message.{Message}
 use Rattle.demands.specs.RoundTrip.{WrittenAtFront}
+use Rattle.demands.specs.LaidOut.{SaidInField}
 use Rattle.demands.proofs.Demand2.Numbers.{FieldSays, field-says}
-use Rattle.base.proofs.Truths.{and-left, and-right, bit-most}
+use Rattle.base.proofs.Truths.{and-left, and-right, and-true, bit-most}
 use Rattle.packet.proofs.Judged.{meets-none}
 
 pub record Writable (m : Message) (n : ℕ) : Type 0 where
@@ -52,19 +53,16 @@ bit-set false = refl
 abbrev pub SaysOf : ℕ → Message → List Item → Type 0
 SaysOf f m is = FieldSays f (m .ptt) (bit (m .squ)) (m .id) (bit (m .pm)) (bit (m .ptts)) (bit (m .sct)) (bit (someItem is))
 
-pub field-written : (m : Message) (is : List Item) → m .ptt ≤ 5 → m .id ≤ 63 → SaysOf (fieldOf m is) m is
+pub field-written : (m : Message) (is : List Item) → m .ptt ≤ 7 → m .id ≤ 63 → SaysOf (fieldOf m is) m is
 field-written m is hp hi =
     field-says (m .ptt) (bit (m .squ)) (m .id) (bit (m .pm)) (bit (m .ptts)) (bit (m .sct)) (bit (someItem is))
     hp (bit-most (m .squ)) hi (bit-most (m .pm)) (bit-most (m .ptts)) (bit-most (m .sct)) (bit-most (someItem is))
 
-pub allowed-in-tx : (f : ℕ) (m : Message) (is : List Item) → SaysOf f m is → m .ptt ≤ 5 → m .squ ≡ false → m .sct ≡ false
-    → fieldAllowed Tx f ≡ true
+-- it breaks a rule by its PTT type alone
+pub field-by-type : (d : Direction) (f : ℕ) (m : Message) (is : List Item) → SaysOf f m is → SaidInField d m → fieldAllowed d f ≡ pttAllowed (m .ptt)
 unfolding fieldAllowed
-allowed-in-tx f m is h hp q s = simp (h .ptt-is, le-leb (m .ptt) 5 hp, h .squ-is, q, h .tx-reserved, s)
-
-pub allowed-in-rx : (f : ℕ) (m : Message) (is : List Item) → SaysOf f m is → m .ptt ≤ 5 → fieldAllowed Rx f ≡ true
-unfolding fieldAllowed
-allowed-in-rx f m is h hp = simp (h .ptt-is, le-leb (m .ptt) 5 hp, h .rx-reserved)
+field-by-type Tx f m is h s = simp (h .ptt-is, h .squ-is, s .0, h .tx-reserved, s .1, and-true)
+field-by-type Rx f m is h s = simp (h .ptt-is, h .rx-reserved, and-true)
 
 -- whichever items X speaks of
 pub allowed-alike : (d : Direction) (f g : ℕ) (m : Message) (is js : List Item) → SaysOf f m is → SaysOf g m js → fieldAllowed d f ≡ fieldAllowed d g
@@ -88,13 +86,13 @@ kind-narrow n = by-test (eqb n 0)
     by-test true = omega arith
     by-test false = omega arith
 
-pub sound-allowed : (n : ℕ) → (eqb n 0 || audioLength n) ≡ true → payloadAllowed (kindFor n) n ≡ true
+pub sound-allowed : (n : ℕ) → payloadAllowed (kindFor n) n ≡ audioWritable n
 unfolding payloadAllowed
-sound-allowed n h = by-test (eqb n 0) (audioLength n) h
+sound-allowed n = by-test (eqb n 0) (audioLength n)
   where
-    by-test : (t a : Bool) → (t || a) ≡ true → cond (eqb (cond t 123 8) 8) a t ≡ true
-    by-test true a h = refl
-    by-test false a h = h
+    by-test : (t a : Bool) → cond (eqb (cond t 123 8) 8) a t ≡ (t || a)
+    by-test true a = refl
+    by-test false a = refl
 
 -- ---- its items and its field
 

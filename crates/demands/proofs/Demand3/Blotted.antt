@@ -10,7 +10,7 @@ use Rattle.writer.specs.Writing.{wordsOf, headOf, encode}
 use Rattle.packet.specs.declared.message.Message.{Message}
 use Rattle.demands.specs.Apart.{blotted}
 use Rattle.demands.proofs.Demand2.Numbers.{joined16}
-use Rattle.demands.proofs.Demand2.Written.{field-written, itemsFor, fieldFor}
+use Rattle.demands.proofs.Demand2.Written.{SaysOf, field-written, itemsFor, fieldFor}
 
 -- a message but for the three
 unfoldable pub calm : Message → Message
@@ -29,14 +29,13 @@ calm m =
     }
 
 module _ (m : Message) (real-type : m .ptt ≤ 5) (real-id : m .id ≤ 63) where
+  says : SaysOf (fieldFor m) m (itemsFor m)
+  says = field-written m (itemsFor m) (omega (arith, real-type)) real-id
+
   field-calm : fieldFor m - placed 16 0 3 (pttType (fieldFor m)) - placed 16 4 6 (pttId (fieldFor m)) - placed 16 11 1 (ptts (fieldFor m)) ≡ fieldFor (calm m)
   unfolding calm
-  field-calm =
-      let says = field-written m (itemsFor m) real-type real-id in
-      simp (says .ptt-is, says .id-is, says .ptts-is) (omega arith)
+  field-calm = simp (says .ptt-is, says .id-is, says .ptts-is) (omega arith)
 
   pub blotted-calm : (ext : ℕ) (sound : List ℕ) → blotted (encode ext m sound) ≡ encode ext (calm m) sound
   unfolding blotted encode headOf wordsOf calm
-  blotted-calm ext sound =
-      let says = field-written m (itemsFor m) real-type real-id in
-      simp (joined16 (fieldFor m) (says .narrow), field-calm)
+  blotted-calm ext sound = simp (joined16 (fieldFor m) (says .narrow), field-calm)
