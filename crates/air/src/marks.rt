@@ -5,7 +5,7 @@ ghost use Rattle.air.specs.Marks.{markIf, smallestFrom};
 use base::bit;
 
 // One seat more, if the test holds; what is no seat's number leaves no mark.
-pub fn mark_if(test: bool, marks: [bool; 8], n: u8) -> [bool; 8]
+pub(crate) fn mark_if(test: bool, marks: [bool; 8], n: u8) -> [bool; 8]
     ensures { λ r. ⌜ r ≡ markIf test marks n ⌝ }
 {
     let mut more = marks;
@@ -18,7 +18,7 @@ pub fn mark_if(test: bool, marks: [bool; 8], n: u8) -> [bool; 8]
 }
 
 // The smallest seat that is marked, 0 if none is.
-pub fn smallest(marks: [bool; 8]) -> u8
+pub(crate) fn smallest(marks: [bool; 8]) -> u8
     ensures { λ r. ⌜ r ≡ smallestFrom 1 marks ⌝ }
 {
     let mut n: u8 = 1;
@@ -32,7 +32,7 @@ pub fn smallest(marks: [bool; 8]) -> u8
 }
 
 // How many are marked.
-pub fn marked(marks: [bool; 8]) -> u8
+pub(crate) fn marked(marks: [bool; 8]) -> u8
     ensures { λ r. ⌜ r ≡ howMany (λ m. m) marks ⌝ }
 {
     let mut n: u8 = 0;

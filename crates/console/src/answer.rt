@@ -32,13 +32,13 @@ use text::put;
 use text::put_number;
 
 // The bench after a call, and where the answer ends.
-pub struct Said {
-    pub bench: Bench,
-    pub end: usize,
+pub(crate) struct Said {
+    pub(crate) bench: Bench,
+    pub(crate) end: usize,
 }
 
 // `bytes` has the bytes that the line gave; the line itself says what was expected where it is no call.
-pub fn answer(b: Bench, call: Call, s: &[u8], bytes: &[u8], out: &mut [u8]) -> Said {
+pub(crate) fn answer(b: Bench, call: Call, s: &[u8], bytes: &[u8], out: &mut [u8]) -> Said {
     match call {
         Call::Setup(setup) => told(fresh(setup), ok(out)),
         Call::Open { seat, request } => open(b, seat, request, out),

@@ -15,16 +15,21 @@ use text::put_bytes;
 use text::put_number;
 use writer::Written;
 
-pub fn ok(out: &mut [u8]) -> usize {
+pub(crate) fn ok(out: &mut [u8]) -> usize {
     put(out, 0, b"ok")
 }
 
-pub fn refused(out: &mut [u8], r: Refusal) -> usize {
+pub(crate) fn refused(out: &mut [u8], r: Refusal) -> usize {
     refusal_line(out, r)
 }
 
 // The reports lie at the front of the buffer, each behind its length.
-pub fn ticked_line(out: &mut [u8], answer: Written, sets: SeatSets, buffer: &[u8; ROOM]) -> usize {
+pub(crate) fn ticked_line(
+    out: &mut [u8],
+    answer: Written,
+    sets: SeatSets,
+    buffer: &[u8; ROOM],
+) -> usize {
     match answer {
         Written::Refused(r) => refused(out, r),
         Written::Length(used) => {
@@ -40,7 +45,7 @@ pub fn ticked_line(out: &mut [u8], answer: Written, sets: SeatSets, buffer: &[u8
     }
 }
 
-pub fn heard_line(out: &mut [u8], h: Hearing, audio: &[u8]) -> usize {
+pub(crate) fn heard_line(out: &mut [u8], h: Hearing, audio: &[u8]) -> usize {
     let at = put(out, 0, b"ok missing=");
     let at = put_number(out, at, h.missing as u64);
     let at = put(out, at, b" reply=");
@@ -50,12 +55,12 @@ pub fn heard_line(out: &mut [u8], h: Hearing, audio: &[u8]) -> usize {
     put_bytes(out, at, audio)
 }
 
-pub fn quality_line(out: &mut [u8], quality: u8) -> usize {
+pub(crate) fn quality_line(out: &mut [u8], quality: u8) -> usize {
     let at = put(out, 0, b"ok quality=");
     put_number(out, at, quality as u64)
 }
 
-pub fn air_line(out: &mut [u8], air: Air) -> usize {
+pub(crate) fn air_line(out: &mut [u8], air: Air) -> usize {
     let on = air.on;
     let at = put(out, 0, b"ok on=");
     let at = put_seats(out, at, on);
@@ -63,7 +68,7 @@ pub fn air_line(out: &mut [u8], air: Air) -> usize {
     put_number(out, at, air.ptt as u64)
 }
 
-pub fn totals_line(out: &mut [u8], answer: TotalsAnswer) -> usize {
+pub(crate) fn totals_line(out: &mut [u8], answer: TotalsAnswer) -> usize {
     match answer {
         TotalsAnswer::Refused(r) => refused(out, r),
         TotalsAnswer::Are(totals) => {
@@ -76,7 +81,7 @@ pub fn totals_line(out: &mut [u8], answer: TotalsAnswer) -> usize {
 }
 
 // The packet lies at the front of the buffer.
-pub fn written_line(out: &mut [u8], written: Written, buffer: &[u8; ROOM]) -> usize {
+pub(crate) fn written_line(out: &mut [u8], written: Written, buffer: &[u8; ROOM]) -> usize {
     match written {
         Written::Refused(r) => refused(out, r),
         Written::Length(n) => {

@@ -9,21 +9,21 @@ use libc::STDOUT_FILENO;
 use text::put_byte;
 
 // The longest line that is read, without its end.
-pub const LINE: usize = 2048;
+pub(crate) const LINE: usize = 2048;
 
 // The bench, and how many bytes of a line have come; LINE + 1 for a line that is longer.
-pub struct Held {
-    pub bench: Bench,
-    pub length: usize,
+pub(crate) struct Held {
+    pub(crate) bench: Bench,
+    pub(crate) length: usize,
 }
 
-pub struct Turned {
-    pub held: Held,
-    pub more: bool,
+pub(crate) struct Turned {
+    pub(crate) held: Held,
+    pub(crate) more: bool,
 }
 
 // One piece of the input; none is left where a read gives nothing.
-pub fn turn(h: Held, line: &mut [u8]) -> Turned {
+pub(crate) fn turn(h: Held, line: &mut [u8]) -> Turned {
     let mut piece = io::buffer();
     let got = libc::read(STDIN_FILENO, &mut piece);
     let n = io::count(got, &piece);
@@ -61,7 +61,7 @@ fn taken(h: Held, piece: &[u8], line: &mut [u8]) -> Held {
 }
 
 // Answers one line, and writes the answer in one call.
-pub fn answered(b: Bench, length: usize, line: &[u8]) -> Bench {
+pub(crate) fn answered(b: Bench, length: usize, line: &[u8]) -> Bench {
     // The longest answer, 30 ms of audio in hexadecimal, has under 600 bytes.
     let mut out = [0u8; 2048];
     if LINE < length {

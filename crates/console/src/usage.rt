@@ -49,17 +49,17 @@ fn put_write(out: &mut [u8], at: usize) -> usize {
 }
 
 // What a line that is no call is told.
-pub fn expected(out: &mut [u8], s: &[u8]) -> usize {
+pub(crate) fn expected(out: &mut [u8], s: &[u8]) -> usize {
     let at = put(out, 0, b"error: expected ");
     usage(out, at, named(s))
 }
 
-pub fn too_long(out: &mut [u8]) -> usize {
+pub(crate) fn too_long(out: &mut [u8]) -> usize {
     put(out, 0, b"error: expected a line of at most 2048 bytes")
 }
 
 // Every call, one a line.
-pub fn help(out: &mut [u8]) -> usize {
+pub(crate) fn help(out: &mut [u8]) -> usize {
     let mut at = usage(out, 0, 0);
     let mut call = 1;
     while call < CALLS {

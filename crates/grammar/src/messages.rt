@@ -21,21 +21,21 @@ use words::number;
 use words::place_of;
 use words::word;
 
-pub enum TxSaid {
+pub(crate) enum TxSaid {
     Is(Tx),
     Not,
 }
 
-pub enum RxSaid {
+pub(crate) enum RxSaid {
     Is(Rx),
     Not,
 }
 
-pub struct HeadSaid {
-    pub sequence: u16,
-    pub timestamp: u32,
-    pub ssrc: u32,
-    pub ptt: u8,
+struct HeadSaid {
+    sequence: u16,
+    timestamp: u32,
+    ssrc: u32,
+    ptt: u8,
 }
 
 enum HeadRead {
@@ -43,10 +43,10 @@ enum HeadRead {
     Not,
 }
 
-pub struct KeySaid {
-    pub id: u8,
-    pub pm: bool,
-    pub ptts: bool,
+struct KeySaid {
+    id: u8,
+    pm: bool,
+    ptts: bool,
 }
 
 enum KeyRead {
@@ -168,7 +168,7 @@ fn sqi(w: &[u8]) -> SqiRead
 }
 
 // SEQ TS SSRC PTT ID PM PTTS CLD MSS, from word 2 on.
-pub fn tx(s: &[u8]) -> TxSaid
+pub(crate) fn tx(s: &[u8]) -> TxSaid
     ensures { λ r. ⌜ txSaid r ≡ txIn (now (s .entry)) ⌝ }
 {
     let HeadRead::Is(head) = head(s) else {
@@ -197,7 +197,7 @@ pub fn tx(s: &[u8]) -> TxSaid
 }
 
 // SEQ TS SSRC PTT SQU ID PM PTTS SCT SQI MSS, from word 2 on.
-pub fn rx(s: &[u8]) -> RxSaid
+pub(crate) fn rx(s: &[u8]) -> RxSaid
     ensures { λ r. ⌜ rxSaid r ≡ rxIn (now (s .entry)) ⌝ }
 {
     let HeadRead::Is(head) = head(s) else {

@@ -17,39 +17,39 @@ use words::dash;
 use words::half;
 use words::place_of;
 
-pub enum BoolRead {
+pub(crate) enum BoolRead {
     Is(bool),
     Not,
 }
 
-pub enum KindRead {
+pub(crate) enum KindRead {
     Is(Kind),
     Not,
 }
 
-pub enum CallTypeRead {
+pub(crate) enum CallTypeRead {
     Is(CallType),
     Not,
 }
 
-pub enum RoomRead {
+pub(crate) enum RoomRead {
     Is(usize),
     Not,
 }
 
-pub enum LentRead {
+pub(crate) enum LentRead {
     Is(Lent),
     Not,
 }
 
 // Seats as bits, seat 1 the lowest.
-pub enum SeatsRead {
+pub(crate) enum SeatsRead {
     Are(u8),
     Not,
 }
 
 // Of a list of two words, is it the second?
-pub fn second(w: &[u8], list: &[u8]) -> BoolRead
+pub(crate) fn second(w: &[u8], list: &[u8]) -> BoolRead
     ensures { λ r. ⌜ boolSaid r ≡ oneOf (now (w .entry)) (now (list .entry)) (false ∷ true ∷ []) ⌝ }
 {
     match choice(w, list) {
@@ -59,7 +59,7 @@ pub fn second(w: &[u8], list: &[u8]) -> BoolRead
     }
 }
 
-pub fn kind(w: &[u8]) -> KindRead
+pub(crate) fn kind(w: &[u8]) -> KindRead
     ensures { λ r. ⌜ kindSaid r ≡ kindIn (now (w .entry)) ⌝ }
 {
     match choice(w, b"single pair shared") {
@@ -70,7 +70,7 @@ pub fn kind(w: &[u8]) -> KindRead
     }
 }
 
-pub fn call_type(w: &[u8]) -> CallTypeRead
+pub(crate) fn call_type(w: &[u8]) -> CallTypeRead
     ensures { λ r. ⌜ callTypeSaid r ≡ callTypeIn (now (w .entry)) ⌝ }
 {
     match choice(w, b"idle rxonly txrx coupling") {
@@ -83,7 +83,7 @@ pub fn call_type(w: &[u8]) -> CallTypeRead
 }
 
 // ROOM
-pub fn room(w: &[u8]) -> RoomRead
+pub(crate) fn room(w: &[u8]) -> RoomRead
     ensures { λ r. ⌜ roomSaid r ≡ roomIn (now (w .entry)) ⌝ }
 {
     let HalfRead::Is(n) = half(w) else {
@@ -98,7 +98,7 @@ pub fn room(w: &[u8]) -> RoomRead
 }
 
 // AUDIO, as it was read, and ROOM.
-pub fn lent(audio: BytesRead, size: &[u8]) -> LentRead
+pub(crate) fn lent(audio: BytesRead, size: &[u8]) -> LentRead
     ensures { λ r. ⌜ lentSaid r ≡ lentIn audio (now (size .entry)) ⌝ }
 {
     let BytesRead::Are(audio) = audio else {
@@ -166,7 +166,7 @@ fn lessons(w: &[u8]) -> u8
 }
 
 // SEATS
-pub fn seats(w: &[u8]) -> SeatsRead
+pub(crate) fn seats(w: &[u8]) -> SeatsRead
     ensures { λ r. ⌜ seatsSaid r ≡ seatsIn (now (w .entry)) ⌝ }
 {
     if w.len() == 0 {

@@ -21,18 +21,18 @@ use words::last;
 use words::number;
 use words::word;
 
-pub enum ModesRead {
+pub(crate) enum ModesRead {
     Are(SetupSaid),
     Not,
 }
 
-pub enum RequestRead {
+pub(crate) enum RequestRead {
     Is(Request),
     Not,
 }
 
 // SEATS EXT single|pair|shared lockout|summation interruption|summation
-pub fn modes(s: &[u8]) -> ModesRead
+pub(crate) fn modes(s: &[u8]) -> ModesRead
     ensures { λ r. ⌜ modesSaid r ≡ modesIn (now (s .entry)) ⌝ }
 {
     let SeatsRead::Are(lessons) = seats(word(s, 1)) else {
@@ -60,7 +60,7 @@ pub fn modes(s: &[u8]) -> ModesRead
 }
 
 // idle|rxonly|txrx|coupling PERIOD MULTIPLIER SSRC SEQUENCE, from word 2 on.
-pub fn request(s: &[u8]) -> RequestRead
+pub(crate) fn request(s: &[u8]) -> RequestRead
     ensures { λ r. ⌜ requestSaid r ≡ requestIn (now (s .entry)) ⌝ }
 {
     let CallTypeRead::Is(call) = call_type(word(s, 2)) else {

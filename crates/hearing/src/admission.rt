@@ -24,7 +24,7 @@ use seats::opening::own_id;
 const MOST: u64 = 4000000000;
 
 // 19 to 23 and 33, in this order.
-pub fn message_verdict(setup: Setup, n: u8, s: Seat, m: Tx) -> Verdict
+pub(crate) fn message_verdict(setup: Setup, n: u8, s: Seat, m: Tx) -> Verdict
     ensures { λ r. ⌜ verdictOf r ≡ messageVerdict setup n s m ⌝ }
 {
     let heard = s.heard;

@@ -19,7 +19,7 @@ use record::kind::items_move_side;
 use record::kind::kind_of;
 
 // The bench after an accepted message, s being the seat before it.
-pub fn heard_bench(b: Bench, n: u8, s: Seat, m: Tx) -> Bench
+pub(crate) fn heard_bench(b: Bench, n: u8, s: Seat, m: Tx) -> Bench
     requires { ⌜ (noSuchSeat n ≡ false) × (s ≡ seatOf (b .seats) n) × (totalTooLarge (totalsAfter s m) ≡ false) ⌝ }
     ensures { λ r. ⌜ r ≡ heardBench b n m ⌝ }
 {
@@ -69,14 +69,14 @@ fn totals_after(s: Seat, m: Tx) -> Totals
 }
 
 // The packets missing between what the seat last accepted and the message.
-pub fn missing_before(last: Heard, m: Tx) -> u16
+pub(crate) fn missing_before(last: Heard, m: Tx) -> u16
     ensures { λ r. ⌜ r ≡ missingBefore last m ⌝ }
 {
     missing(last.any, last.sequence, m.sequence)
 }
 
 // What the seat keeps of a message.
-pub fn field_heard(m: Tx) -> Field
+pub(crate) fn field_heard(m: Tx) -> Field
     ensures { λ r. ⌜ r ≡ fieldHeard m ⌝ }
 {
     let climax = m.climax;
@@ -111,7 +111,7 @@ fn delay_of(i: ClimaxItem) -> u8
     }
 }
 
-pub fn has_side(i: SideItem) -> bool
+pub(crate) fn has_side(i: SideItem) -> bool
     ensures { λ r. ⌜ r ≡ hasSide i ⌝ }
 {
     match i {
@@ -152,7 +152,7 @@ fn takes_effect(old: Field, new: Field) -> bool
 }
 
 // The same meaning, value by value.
-pub fn same_field(old: Field, new: Field) -> bool
+pub(crate) fn same_field(old: Field, new: Field) -> bool
     ensures { λ r. ⌜ r ≡ sameField old new ⌝ }
 {
     let keying = (old.ptt == new.ptt)

@@ -9,7 +9,7 @@ use packet::Refusal;
 use packet::Verdict;
 
 // 1 to 5: the RTP head.
-pub fn head_verdict(p: &[u8]) -> Verdict
+pub(crate) fn head_verdict(p: &[u8]) -> Verdict
     ensures { λ r. ⌜ verdictOf r ≡ headVerdict (now (p .entry)) ⌝ }
 {
     if p.len() < 12 {
@@ -39,54 +39,54 @@ pub fn head_verdict(p: &[u8]) -> Verdict
 }
 
 // 8 for audio, 123 for R2S.
-pub fn payload_type(p: &[u8]) -> u8
+pub(crate) fn payload_type(p: &[u8]) -> u8
     ensures { λ r. ⌜ r ≡ payloadType (now (p .entry)) ⌝ }
 {
     byte_at(p, 1) % 128
 }
 
 // Where the extension begins, behind the CSRC words.
-pub fn extension_at(p: &[u8]) -> u32
+fn extension_at(p: &[u8]) -> u32
     ensures { λ r. ⌜ r ≡ extensionAt (now (p .entry)) ⌝ }
 {
     let count = byte_at(p, 0) % 16;
     12 + 4 * (count as u32)
 }
 
-pub fn extension_type(p: &[u8]) -> u16
+fn extension_type(p: &[u8]) -> u16
     ensures { λ r. ⌜ r ≡ extensionType (now (p .entry)) ⌝ }
 {
     number16_at(p, extension_at(p))
 }
 
 // W, the number of words of the extension.
-pub fn word_count(p: &[u8]) -> u16
+fn word_count(p: &[u8]) -> u16
     ensures { λ r. ⌜ r ≡ wordCount (now (p .entry)) ⌝ }
 {
     number16_at(p, extension_at(p) + 2)
 }
 
-pub fn words_at(p: &[u8]) -> u32
+pub(crate) fn words_at(p: &[u8]) -> u32
     ensures { λ r. ⌜ r ≡ wordsAt (now (p .entry)) ⌝ }
 {
     extension_at(p) + 4
 }
 
-pub fn payload_at(p: &[u8]) -> u32
+pub(crate) fn payload_at(p: &[u8]) -> u32
     ensures { λ r. ⌜ r ≡ payloadAt (now (p .entry)) ⌝ }
 {
     words_at(p) + 4 * (word_count(p) as u32)
 }
 
 // The first two bytes of the words.
-pub fn field(p: &[u8]) -> u16
+pub(crate) fn field(p: &[u8]) -> u16
     ensures { λ r. ⌜ r ≡ field (now (p .entry)) ⌝ }
 {
     number16_at(p, words_at(p))
 }
 
 // 6 to 9: the extension's head, and its words.
-pub fn extension_verdict(ext: u16, p: &[u8]) -> Verdict
+pub(crate) fn extension_verdict(ext: u16, p: &[u8]) -> Verdict
     ensures { λ r. ⌜ verdictOf r ≡ extensionVerdict ext (now (p .entry)) ⌝ }
 {
     let words = words_at(p) as usize;

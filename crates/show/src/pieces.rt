@@ -9,21 +9,21 @@ use text::put;
 use text::put_bit;
 use text::put_number;
 
-pub fn named_number(out: &mut [u8], at: usize, name: &[u8], n: u64) -> usize
+pub(crate) fn named_number(out: &mut [u8], at: usize, name: &[u8], n: u64) -> usize
     ensures { λ r. ⌜ Written (now (out .entry)) (now (out .exit)) at r (now (name .entry) ++ decimal n) ⌝ }
 {
     let next = put(out, at, name);
     put_number(out, next, n)
 }
 
-pub fn named_bit(out: &mut [u8], at: usize, name: &[u8], b: bool) -> usize
+pub(crate) fn named_bit(out: &mut [u8], at: usize, name: &[u8], b: bool) -> usize
     ensures { λ r. ⌜ Written (now (out .entry)) (now (out .exit)) at r (now (name .entry) ++ bitText b) ⌝ }
 {
     let next = put(out, at, name);
     put_bit(out, next, b)
 }
 
-pub fn put_kind(out: &mut [u8], at: usize, audio: usize) -> usize
+fn put_kind(out: &mut [u8], at: usize, audio: usize) -> usize
     ensures { λ r. ⌜ Written (now (out .entry)) (now (out .exit)) at r (kindText audio) ⌝ }
 {
     if audio == 0 {
@@ -34,7 +34,7 @@ pub fn put_kind(out: &mut [u8], at: usize, audio: usize) -> usize
 }
 
 // What the lines of both directions begin with.
-pub fn put_head(
+pub(crate) fn put_head(
     out: &mut [u8],
     name: &[u8],
     sequence: u16,
@@ -53,7 +53,7 @@ pub fn put_head(
     named_number(out, at, b" ptt=", ptt as u64)
 }
 
-pub fn put_sqi(out: &mut [u8], at: usize, item: SqiItem) -> usize
+pub(crate) fn put_sqi(out: &mut [u8], at: usize, item: SqiItem) -> usize
     ensures { λ r. ⌜ Written (now (out .entry)) (now (out .exit)) at r (sqiText item) ⌝ }
 {
     match item {
@@ -65,7 +65,7 @@ pub fn put_sqi(out: &mut [u8], at: usize, item: SqiItem) -> usize
     }
 }
 
-pub fn put_climax(out: &mut [u8], at: usize, item: ClimaxItem) -> usize
+pub(crate) fn put_climax(out: &mut [u8], at: usize, item: ClimaxItem) -> usize
     ensures { λ r. ⌜ Written (now (out .entry)) (now (out .exit)) at r (climaxText item) ⌝ }
 {
     match item {
@@ -74,7 +74,7 @@ pub fn put_climax(out: &mut [u8], at: usize, item: ClimaxItem) -> usize
     }
 }
 
-pub fn put_side(out: &mut [u8], at: usize, item: SideItem) -> usize
+pub(crate) fn put_side(out: &mut [u8], at: usize, item: SideItem) -> usize
     ensures { λ r. ⌜ Written (now (out .entry)) (now (out .exit)) at r (sideText item) ⌝ }
 {
     match item {

@@ -6,7 +6,7 @@ use text::put_bytes;
 use text::put_number;
 use writer::Written;
 
-pub fn put_line(out: &mut [u8], written: Written, lent: &[u8]) -> usize {
+pub(crate) fn put_line(out: &mut [u8], written: Written, lent: &[u8]) -> usize {
     let at = put_answer(out, written);
     let at = put_byte(out, at, b' ');
     let at = put_bytes(out, at, lent);

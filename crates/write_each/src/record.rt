@@ -21,7 +21,7 @@ use writer::Written;
 use writer::write_rx;
 use writer::write_tx;
 
-pub fn write(record: &[u8], audio: &[u8], lent: &mut [u8]) -> Written {
+pub(crate) fn write(record: &[u8], audio: &[u8], lent: &mut [u8]) -> Written {
     let ext = number16_at(record, 1);
     if set(record, 0) {
         write_rx(ext, rx(record), audio, lent)
@@ -91,11 +91,11 @@ fn side(record: &[u8]) -> SideItem {
     }
 }
 
-pub fn audio_length(record: &[u8]) -> usize {
+pub(crate) fn audio_length(record: &[u8]) -> usize {
     least(number16_at(record, 25) as usize, 512)
 }
 
-pub fn room(record: &[u8]) -> usize
+pub(crate) fn room(record: &[u8]) -> usize
     ensures { λ r. ⌜ r ≤ 512 ⌝ }
 {
     least(number16_at(record, 27) as usize, 512)

@@ -30,7 +30,7 @@ const CLIMAX: u8 = 33;
 const SIDE: u8 = 81;
 
 // The packet, over the front of the buffer.
-pub fn put_packet(ext: u16, m: Message, audio: &[u8], out: &mut [u8])
+pub(crate) fn put_packet(ext: u16, m: Message, audio: &[u8], out: &mut [u8])
     ensures { λ _. ⌜ now (out .exit) ≡ overlaid (encode ext m (now (audio .entry))) (now (out .entry)) ⌝ }
 {
     let items = m.items;
@@ -182,7 +182,7 @@ fn some_item(k: Items) -> bool
     item_count(k) != 0
 }
 
-pub fn fewest_words(k: Items) -> u32
+pub(crate) fn fewest_words(k: Items) -> u32
     ensures { λ r. ⌜ r ≡ fewestWords (risingItems k) ⌝ }
 {
     (2 + 2 * (item_count(k) as u32) + 3) / 4
