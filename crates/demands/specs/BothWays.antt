@@ -1,14 +1,18 @@
 -- Demand 2 of the code: "What the writers write reads back the same; an accepted plain packet is rewritten to the same
 -- bytes", since 02 one without a type 4 item. RoundTrip and Rewrite say so of the definitions; here are the functions, by
 -- their promises (as in Tight).
-use Prim.Native.Nat.{ℕ, _≤_}
+use Prim.Native.Nat.{ℕ, _-_, _≤_}
 use mathlib.Core.Path.{_≡_}
-use mathlib.Core.List.{List, _++_}
+use mathlib.Core.Bool.{true, false}
+use mathlib.Core.List.{List, [], _++_}
 use denote.Ref.{now}
-use lib.ListN.{length, take, drop}
+use lib.ListN.{length, take, drop, getD}
 use Rattle.base.specs.Bytes.{Bytes}
 use Rattle.packet.specs.Packet.{payload}
 use Rattle.writer.specs.Writing.{fromTx, fromRx}
+use Rattle.record.specs.Record.{noSuchSeat}
+use Rattle.reporting.specs.Reporting.{reportOf}
+use Rattle.sending.specs.Sending.{afterClosings}
 use Rattle.packet.specs.declared.message.Tx.{Tx}
 use Rattle.packet.specs.declared.message.Rx.{Rx}
 use Rattle.reader.specs.declared.reading.TxRead.the-variants as tx
@@ -16,10 +20,13 @@ use Rattle.reader.specs.declared.reading.RxRead.the-variants as rx
 use Rattle.writer.specs.declared.writing.Written.the-variants as written
 use Rattle.reader.proofs as reader
 use Rattle.writer.proofs as writer
+use Rattle.reporting.proofs as reporting
+use Rattle.sending.proofs as sending
+use Rattle.demands.specs.AirKept.{AirRight}
 use Rattle.demands.specs.Plain.{Plain}
 use Rattle.demands.specs.Rewrite.{WithoutDdc}
 use Rattle.demands.specs.RoundTrip.{Narrow}
-use Rattle.demands.specs.StepOfCode.{Gives}
+use Rattle.demands.specs.StepOfCode.{Gives, readBack}
 
 -- Given these bytes, a reader answers this message.
 abbrev pub ReadsTx : (ext : ℕ) (bytes : List ℕ) → Tx → Type 0
@@ -49,6 +56,16 @@ pub record BothWays : Type 1 where
   pub written-rx : Gives writer.write_rx.Reads.Learnt (λ k (ext, (m, (sound, (out, end)))) w e.
       (long : ℕ) → w ≡ written.Length long → Narrow ext (fromRx m)
       → ReadsRx ext (take long (now (e .1 .1 .1 .0))) m × HandsOut (take long (now (e .1 .1 .1 .0))) (now sound))
+  -- so does a report, where the record has its air right (AirKept: after every run of calls)
+  pub written-report : Gives reporting.report.Reads.Learnt (λ k (b, (n, (timestamp, (sound, (out, end))))) r e.
+      (long : ℕ) → r .answer ≡ written.Length long → AirRight b → Narrow (b .setup .ext) (fromRx (reportOf b n timestamp))
+      → ReadsRx (b .setup .ext) (take long (now (e .1 .1 .1 .1 .0))) (reportOf b n timestamp) × HandsOut (take long (now (e .1 .1 .1 .1 .0))) (now sound))
+  -- and each report of a tick, which makes the air right itself: of seat n, among the frames read back along the seats that are due
+  pub written-tick : Gives sending.tick.Reads.Learnt (λ k (b, (ms, (timestamp, (out, end)))) r e.
+      (used n : ℕ) → r .answer ≡ written.Length used → noSuchSeat n ≡ false → getD (r .seats .due) (n - 1) false ≡ true
+      → Narrow (b .setup .ext) (fromRx (reportOf (afterClosings b ms) n timestamp))
+      → let bytes = getD (readBack (r .seats .due) (take used (now (e .1 .1 .1 .0)))) (n - 1) [] in
+      ReadsRx (b .setup .ext) bytes (reportOf (afterClosings b ms) n timestamp) × HandsOut bytes [])
   -- what was read of a plain packet without a type 4 item is written to the same bytes, into every buffer with room for them
   pub read-tx : Gives reader.read_tx.Reads.Learnt (λ k (ext, (p, end)) r e.
       (m : Tx) → r ≡ tx.Message m → Bytes (now p) → Plain (now p) → WithoutDdc (now p) → (buffer : List ℕ) → length (now p) ≤ length buffer

@@ -39,12 +39,13 @@ WrittenAtFront =
     (ext : ℕ) (m : Message) (sound buffer : List ℕ) (n : ℕ) → write ext m sound (length buffer) ≡ accepted n
     → (writable m (length sound) ≡ true) × (take n (buffered ext m sound buffer) ≡ encode ext m sound)
 
--- and a report that was written tells what it was made of, where the air in the record is right (AirKept: after every run of calls). One
--- made by hand may hold a PTT type or a ptt-id that a report has no bits for.
+-- and a report that was written tells what it was made of, and has its audio, where the air in the record is right (AirKept: after every
+-- run of calls). One made by hand may hold a PTT type or a ptt-id that a report has no bits for.
 abbrev pub ReportsReadBack : Type 0
 ReportsReadBack =
     (b : Bench) → AirRight b → (n timestamp : ℕ) (sound : List ℕ) (room long : ℕ) → Narrow (b .setup .ext) (fromRx (reportOf b n timestamp))
-    → reportSaid b n timestamp sound room ≡ accepted long → readRx (b .setup .ext) (reportBytes b n timestamp sound) ≡ accepted (reportOf b n timestamp)
+    → reportSaid b n timestamp sound room ≡ accepted long
+    → (readRx (b .setup .ext) (reportBytes b n timestamp sound) ≡ accepted (reportOf b n timestamp)) × (payload (reportBytes b n timestamp sound) ≡ sound)
 
 -- 01: "Writers write only this", plain form.
 abbrev pub PlainWritten : Type 0

@@ -6,16 +6,19 @@ use mathlib.Core.Bool.{Bool, true, false}
 use mathlib.Core.List.{List, [], _∷_}
 use denote.Ref.{now}
 use lib.ListN.{length, take}
-use Rattle.packet.specs.Refusals.{Answer, accepted, mapped}
+use Rattle.packet.specs.Refusals.{Answer, accepted, refused, mapped}
 use Rattle.packet.specs.Packet.{payload}
 use Rattle.framing.specs.Framing.{packetRead, restRead}
 use Rattle.reader.specs.Reading.{readTx, readRx, txAnswer, rxAnswer}
 use Rattle.writer.specs.Writing.{fromTx, fromRx, write, buffered, put, afterPut, writtenAnswer}
+use Rattle.record.specs.Kind.{kindCode}
 use Rattle.record.specs.Record.{freshBench}
+use Rattle.air.specs.Air.{aired}
 use Rattle.seats.specs.Answers.{openAnswer, doneAnswer}
+use Rattle.seats.specs.Ticking.{silenceCause}
 use Rattle.hearing.specs.Hearing.{audioIn}
-use Rattle.reporting.specs.Reporting.{reportBuffer}
-use Rattle.sending.specs.Sending.{tickSets, tickBuffer}
+use Rattle.reporting.specs.Reporting.{reportSaid, reportBuffer}
+use Rattle.sending.specs.Sending.{noSeats, tickSaid, tickSets, tickBuffer}
 use Rattle.hearing.specs.Answers.{packetAnswer, totalsAnswer}
 use Rattle.bench.specs.Step.{opening, closing, packet, tick, report, received, transmitter, side, totals, Said, done, own, told, ticked, written, counts, Outcome, keeping}
 use Rattle.record.specs.declared.whole.Bench.{Bench}
@@ -23,6 +26,7 @@ use Rattle.sending.specs.declared.sending.SeatSets.{SeatSets}
 use Rattle.reader.proofs as reader
 use Rattle.writer.proofs as writer
 use Rattle.record.proofs as the-record
+use Rattle.air.proofs as air
 use Rattle.seats.proofs as seats
 use Rattle.hearing.proofs as hearing
 use Rattle.reporting.proofs as reporting
@@ -76,15 +80,20 @@ pub record StepOfCode : Type 1 where
   pub hands-out : Gives hearing.audio.Reads.Learnt (λ k (answer, (p, end)) sound e. now sound ≡ audioIn (packetAnswer answer) (now p))
   pub ticks : Gives sending.tick.Reads.Learnt (λ k (b, (ms, (timestamp, (out, end)))) r e.
       did (mapped (sentIn (r .seats) (now (e .1 .1 .1 .0))) (writtenAnswer (r .answer))) (r .bench) ≡ keeping b (tick ms timestamp (length (now out))))
-  -- "bytes past those stay", and all of them where it is refused, which names no seat
+  -- the bytes used; "bytes past those stay", and all of them where it is refused
   pub sends : Gives sending.tick.Reads.Learnt (λ k (b, (ms, (timestamp, (out, end)))) r e.
-      (now (e .1 .1 .1 .0) ≡ tickBuffer b ms timestamp (now out)) × (r .seats ≡ tickSets b ms timestamp (length (now out))))
+      (writtenAnswer (r .answer) ≡ tickSaid b ms timestamp (length (now out))) × (now (e .1 .1 .1 .0) ≡ tickBuffer b ms timestamp (now out)))
+  -- the seats closed and due; refused, it names none
+  pub names : Gives sending.tick.Reads.Learnt (λ k (b, (ms, (timestamp, (out, end)))) r e. r .seats ≡ tickSets b ms timestamp (length (now out)))
+  pub names-none : Gives sending.tick.Reads.Learnt (λ k (b, (ms, (timestamp, (out, end)))) r e.
+      (number cause : ℕ) → writtenAnswer (r .answer) ≡ refused number cause → r .seats ≡ noSeats)
   pub reports : Gives reporting.report.Reads.Learnt (λ k (b, (n, (timestamp, (audio, (out, end))))) r e.
       did (mapped (inFront (now (e .1 .1 .1 .1 .0))) (writtenAnswer (r .answer))) (r .bench)
       ≡ keeping b (report n timestamp (now audio) (length (now out))))
-  -- "Bytes past its length stay", and all of them where it is refused
+  -- "The answer is its length in bytes. Bytes past its length stay", and all of them where it is refused
   pub leaves : Gives reporting.report.Reads.Learnt (λ k (b, (n, (timestamp, (audio, (out, end))))) r e.
-      now (e .1 .1 .1 .1 .0) ≡ reportBuffer b n timestamp (now audio) (now out))
+      (writtenAnswer (r .answer) ≡ reportSaid b n timestamp (now audio) (length (now out)))
+      × (now (e .1 .1 .1 .1 .0) ≡ reportBuffer b n timestamp (now audio) (now out)))
   pub receives : Gives seats.received.Reads.Learnt
       (λ k (b, (signals, (level, end))) r e. did (accepted done) r ≡ keeping b (received signals level))
   pub transmits : Gives seats.transmitter.Reads.Learnt (λ k (b, (healthy, end)) r e. did (accepted done) r ≡ keeping b (transmitter healthy))
@@ -92,3 +101,7 @@ pub record StepOfCode : Type 1 where
       (λ k (b, (standby, end)) r e. did (mapped wasDone (doneAnswer (r .answer))) (r .bench) ≡ keeping b (side standby))
   -- the bench is not given back: it is as it was
   pub tells-totals : Gives hearing.totals.Reads.Learnt (λ k (b, (n, end)) r e. did (mapped counts (totalsAnswer r)) b ≡ keeping b (totals n))
+  -- what else the bench gives out
+  pub airs : Gives air.aired.Reads.Learnt (λ k (b, end) r e. r ≡ aired b)
+  pub tells-cause : Gives seats.silence_cause.Reads.Learnt (λ k end r e. r ≡ silenceCause)
+  pub codes : Gives the-record.kind_code.Reads.Learnt (λ k (kind, end) r e. r ≡ kindCode kind)

@@ -99,4 +99,4 @@ unfolding reportBytes reportSaid
 reports-read-back b right n timestamp sound room long narrow e =
     let met = report-accepted b n timestamp sound room (meets-none (reportRefusals b n timestamp sound room) _ long e .0) in
     round-trip-rx (b .setup .ext) (reportOf b n timestamp) sound narrow
-    (report-writable b right n timestamp (length sound) (met .is-seat) (met .audio-allowed)) .0
+    (report-writable b right n timestamp (length sound) (met .is-seat) (met .audio-allowed))

@@ -12,7 +12,7 @@ use Rattle.seats.specs.Ticking.{silentSeats, dueSeats}
 use Rattle.hearing.specs.Account.{totalsSaid}
 use Rattle.hearing.specs.Answers.{totalsAnswer}
 use Rattle.reporting.specs.Reporting.{reportRefusals, reportSaid, reportBytes, reportBuffer}
-use Rattle.sending.specs.Sending.{tickRefusals, afterClosings, records, sentBytes, tickSaid, namedIn, tickSets, tickBuffer}
+use Rattle.sending.specs.Sending.{tickRefusals, afterClosings, records, sentBytes, tickSaid, noSeats, namedIn, tickSets, tickBuffer}
 use Rattle.bench.specs.Step.{Said, own, done, told, ticked, written, totals, counts, does, keeping}
 use Rattle.hearing.specs.declared.account.TotalsAnswer.{TotalsAnswer}
 use Rattle.record.specs.declared.whole.Bench.{Bench}
@@ -52,6 +52,11 @@ module _ (b : Bench) (ms timestamp : ℕ) (buffer : List ℕ) where
       (ap (readBack (dueSeats b ms)) (take-at sent (drop (length sent) buffer) (length sent) refl)
       ∙ read-back (afterClosings b ms) timestamp 1 (dueSeats b ms)))
 
+-- refused, it names no seat
+none-named : (b : Bench) (ms timestamp room number cause : ℕ) → tickSaid b ms timestamp room ≡ refused number cause → tickSets b ms timestamp room ≡ noSeats
+unfolding tickSets
+none-named b ms timestamp room number cause said = ap (λ (a : Answer ℕ). namedIn a (record { closed = silentSeats b ms; due = dueSeats b ms })) said
+
 -- totals leave the bench, refused or not
 unmoved : {A : Type 0} (answer : Answer A) (b : Bench) → settled answer b b ≡ b
 unmoved (accepted a) b = refl
@@ -80,12 +85,17 @@ step-of-code = record {
       (ap₂ (λ sets left. mapped (sentIn sets left) (writtenAnswer (r .answer))) (p .1 .0) (p .1 .1 .0)
       ∙ ap (mapped _) (p .0) ∙ told-in-records (a .0) (a .1 .0) (a .1 .1 .0) (now (a .1 .1 .1 .0)))
       (p .1 .1 .1);
-  sends = λ k a r e p. (p .1 .1 .0, p .1 .0);
+  sends = λ k a r e p. (p .0, p .1 .1 .0);
+  names = λ k a r e p. p .1 .0;
+  names-none = λ k a r e p number cause said. p .1 .0 ∙ none-named (a .0) (a .1 .0) (a .1 .1 .0) _ number cause (sym (p .0) ∙ said);
   reports = λ k a r e p.
       ap₂ did (ap₂ (λ left answer. mapped (inFront left) answer) (p .1 .0) (p .0) ∙ told-in-front (a .0) (a .1 .0) (a .1 .1 .0) _ (now (a .1 .1 .1 .1 .0))) (p .1 .1);
-  leaves = λ k a r e p. p .1 .0;
+  leaves = λ k a r e p. (p .0, p .1 .0);
   receives = λ k a r e p. ap (did (accepted done)) p;
   transmits = λ k a r e p. ap (did (accepted done)) p;
   sides = λ k a r e p. ap₂ did (ap (mapped wasDone) (p .0)) (p .1);
   tells-totals = λ k a r e p. counted (a .0) (a .1 .0) r p;
+  airs = λ k a r e p. p;
+  tells-cause = λ k a r e p. p;
+  codes = λ k a r e p. p;
 }
