@@ -1,4 +1,5 @@
--- The code does what the definitions say, and its promises leave one answer. In the order in which they build on each other.
+-- The code does what the definitions say, and its promises leave one answer and ask nothing. In the order in which they build on each other.
 pub mod ReadBack
 pub mod StepOfCode
 pub mod Tight
+pub mod AsksNothing

@@ -30,5 +30,6 @@ pub mod DueAtLeastOnce
 pub mod Undisturbed
 pub mod WrongBenches
 pub mod Tight
+pub mod AsksNothing
 pub mod StepOfCode
 pub mod BothWays

@@ -7,4 +7,5 @@
 // AsSingles, that a tick with its reports is a tick and single reports; Room, that 208 bytes are always enough for it.
 // Of a radio whose main and standby share an address: SharedRadio. Of packets counted: Accounts, that a seat's totals are what its
 // history says; TotalsBound, where 33 comes. DueAtLeastOnce, that a seat which stays open is due within its period.
-// The code: StepOfCode and BothWays, its calls, readers and writers do as said; Tight, its promises leave one answer.
+// The code: StepOfCode and BothWays, its calls, readers and writers do as said; Tight, its promises leave one answer;
+// AsksNothing, they ask nothing of a caller.
