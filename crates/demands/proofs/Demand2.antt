@@ -17,6 +17,7 @@ pub mod KeptItems
 pub mod LaidOut
 pub mod Unwritable
 pub mod SteppedOver
+pub mod Widths
 pub mod BothWays
 pub mod Examples
 pub mod Tenths

@@ -5,11 +5,13 @@ use Prim.Native.Nat.{ℕ, _-_, _≤_}
 use mathlib.Core.Path.{_≡_}
 use mathlib.Core.Bool.{true, false}
 use mathlib.Core.List.{List, [], _++_}
+use contract.Lifetimes.{Lfts}
 use denote.Ref.{now}
+use borrow.Fn.Kind.{PK}
+use borrow.Fn.Kinds.{Dens, GoodsP}
 use lib.ListN.{length, take, drop, getD}
 use Rattle.base.specs.Bytes.{Bytes}
 use Rattle.packet.specs.Packet.{payload}
-use Rattle.writer.specs.Writing.{fromTx, fromRx}
 use Rattle.record.specs.Record.{noSuchSeat}
 use Rattle.reporting.specs.Reporting.{reportOf}
 use Rattle.sending.specs.Sending.{afterClosings}
@@ -25,8 +27,12 @@ use Rattle.sending.proofs as sending
 use Rattle.demands.specs.AirKept.{AirRight}
 use Rattle.demands.specs.Plain.{Plain}
 use Rattle.demands.specs.Rewrite.{WithoutDdc}
-use Rattle.demands.specs.RoundTrip.{Narrow}
 use Rattle.demands.specs.StepOfCode.{Gives, readBack}
+
+-- What holds of every result that a promise allows, of arguments that a call can have: what owning them tells, as the kit has it
+-- (`GoodsP`), so that each number fits its type. Of the bytes behind a reference it tells nothing: where these matter, `Bytes` is asked.
+abbrev pub GivesCalled : {n : ℕ} {R E : Lfts n → Type 0} → (kinds : List (PK n)) → (promise claim : (k : Lfts n) → Dens k kinds → R k → E k → Type 0) → Type 0
+GivesCalled {n} {R} {E} kinds promise claim = (k : Lfts n) (a : Dens k kinds) (r : R k) (e : E k) → GoodsP k kinds a → promise k a r e → claim k a r e
 
 -- Given these bytes, a reader answers this message.
 abbrev pub ReadsTx : (ext : ℕ) (bytes : List ℕ) → Tx → Type 0
@@ -50,20 +56,19 @@ WritesRx ext m sound buffer long left = Gives writer.write_rx.Reads.Learnt (λ k
 
 pub record BothWays : Type 1 where
   -- what was written in front of the buffer reads back, with its audio
-  pub written-tx : Gives writer.write_tx.Reads.Learnt (λ k (ext, (m, (sound, (out, end)))) w e.
-      (long : ℕ) → w ≡ written.Length long → Narrow ext (fromTx m)
+  pub written-tx : GivesCalled writer.write_tx.Kinds.ps writer.write_tx.Reads.Learnt (λ k (ext, (m, (sound, (out, end)))) w e.
+      (long : ℕ) → w ≡ written.Length long
       → ReadsTx ext (take long (now (e .1 .1 .1 .0))) m × HandsOut (take long (now (e .1 .1 .1 .0))) (now sound))
-  pub written-rx : Gives writer.write_rx.Reads.Learnt (λ k (ext, (m, (sound, (out, end)))) w e.
-      (long : ℕ) → w ≡ written.Length long → Narrow ext (fromRx m)
+  pub written-rx : GivesCalled writer.write_rx.Kinds.ps writer.write_rx.Reads.Learnt (λ k (ext, (m, (sound, (out, end)))) w e.
+      (long : ℕ) → w ≡ written.Length long
       → ReadsRx ext (take long (now (e .1 .1 .1 .0))) m × HandsOut (take long (now (e .1 .1 .1 .0))) (now sound))
   -- so does a report, where the record has its air right (AirKept: after every run of calls)
-  pub written-report : Gives reporting.report.Reads.Learnt (λ k (b, (n, (timestamp, (sound, (out, end))))) r e.
-      (long : ℕ) → r .answer ≡ written.Length long → AirRight b → Narrow (b .setup .ext) (fromRx (reportOf b n timestamp))
+  pub written-report : GivesCalled reporting.report.Kinds.ps reporting.report.Reads.Learnt (λ k (b, (n, (timestamp, (sound, (out, end))))) r e.
+      (long : ℕ) → r .answer ≡ written.Length long → AirRight b
       → ReadsRx (b .setup .ext) (take long (now (e .1 .1 .1 .1 .0))) (reportOf b n timestamp) × HandsOut (take long (now (e .1 .1 .1 .1 .0))) (now sound))
   -- and each report of a tick, which makes the air right itself: of seat n, among the frames read back along the seats that are due
-  pub written-tick : Gives sending.tick.Reads.Learnt (λ k (b, (ms, (timestamp, (out, end)))) r e.
+  pub written-tick : GivesCalled sending.tick.Kinds.ps sending.tick.Reads.Learnt (λ k (b, (ms, (timestamp, (out, end)))) r e.
       (used n : ℕ) → r .answer ≡ written.Length used → noSuchSeat n ≡ false → getD (r .seats .due) (n - 1) false ≡ true
-      → Narrow (b .setup .ext) (fromRx (reportOf (afterClosings b ms) n timestamp))
       → let bytes = getD (readBack (r .seats .due) (take used (now (e .1 .1 .1 .0)))) (n - 1) [] in
       ReadsRx (b .setup .ext) bytes (reportOf (afterClosings b ms) n timestamp) × HandsOut bytes [])
   -- what was read of a plain packet without a type 4 item is written to the same bytes, into every buffer with room for them

@@ -34,6 +34,7 @@ use Rattle.demands.specs.RoundTrip.{Narrow}
 use Rattle.demands.specs.StepOfCode.{readBack}
 use Rattle.demands.specs.BothWays.{ReadsTx, ReadsRx, HandsOut, WritesTx, WritesRx, BothWays}
 use Rattle.demands.proofs.Demand2.Written.{written-at-front}
+use Rattle.demands.proofs.Demand2.Widths.{narrow-tx, narrow-rx, narrow-report, narrow-tick}
 use Rattle.demands.proofs.Demand2.RoundTrip.{round-trip-tx, round-trip-rx, reports-read-back}
 use Rattle.demands.proofs.Demand2.Rewrite.{rewrite-tx, rewrite-rx}
 use Rattle.demands.proofs.Promises.ReadBack.{read-back as frames-back}
@@ -115,21 +116,21 @@ sent-back b ms n timestamp real narrow =
 
 pub both-ways : BothWays
 both-ways = record {
-  written-tx = λ k a w e h long is narrow.
+  written-tx = λ k a w e owned h long is.
       let there = front (a .0) (fromTx (a .1 .0)) (now (a .1 .1 .0)) (now (a .1 .1 .1 .0)) (now (e .1 .1 .1 .0)) w long (h .0) (h .1) is in
-      let back = round-trip-tx (a .0) (a .1 .0) (now (a .1 .1 .0)) narrow (there .0) in
+      let back = round-trip-tx (a .0) (a .1 .0) (now (a .1 .1 .0)) (narrow-tx k a owned) (there .0) in
       (reads-tx _ _ _ (ap (readTx (a .0)) (there .1) ∙ back .0), hands-out _ _ (ap payload (there .1) ∙ back .1));
-  written-rx = λ k a w e h long is narrow.
+  written-rx = λ k a w e owned h long is.
       let there = front (a .0) (fromRx (a .1 .0)) (now (a .1 .1 .0)) (now (a .1 .1 .1 .0)) (now (e .1 .1 .1 .0)) w long (h .0) (h .1) is in
-      let back = round-trip-rx (a .0) (a .1 .0) (now (a .1 .1 .0)) narrow (there .0) in
+      let back = round-trip-rx (a .0) (a .1 .0) (now (a .1 .1 .0)) (narrow-rx k a owned) (there .0) in
       (reads-rx _ _ _ (ap (readRx (a .0)) (there .1) ∙ back .0), hands-out _ _ (ap payload (there .1) ∙ back .1));
-  written-report = λ k a r e h long is right narrow.
+  written-report = λ k a r e owned h long is right.
       let there = report-front (a .0) (a .1 .0) (a .1 .1 .0) (now (a .1 .1 .1 .0)) (now (a .1 .1 .1 .1 .0)) (now (e .1 .1 .1 .1 .0)) (r .answer) long (h .0) (h .1 .0) is in
-      let back = reports-read-back (a .0) right (a .1 .0) (a .1 .1 .0) (now (a .1 .1 .1 .0)) (length (now (a .1 .1 .1 .1 .0))) long narrow (there .0) in
+      let back = reports-read-back (a .0) right (a .1 .0) (a .1 .1 .0) (now (a .1 .1 .1 .0)) (length (now (a .1 .1 .1 .1 .0))) long (narrow-report k a owned) (there .0) in
       (reads-rx _ _ _ (ap (readRx (a .0 .setup .ext)) (there .1) ∙ back .0), hands-out _ _ (ap payload (there .1) ∙ back .1));
-  written-tick = λ k a r e h used n is real is-due narrow.
+  written-tick = λ k a r e owned h used n is real is-due.
       let there = report-sent (a .0) (a .1 .0) (a .1 .1 .0) (now (a .1 .1 .1 .0)) (now (e .1 .1 .1 .0)) (r .seats) (r .answer) used (h .0) (h .1 .0) (h .1 .1 .0) is n real is-due in
-      let back = sent-back (a .0) (a .1 .0) n (a .1 .1 .0) real narrow in
+      let back = sent-back (a .0) (a .1 .0) n (a .1 .1 .0) real (narrow-tick k a owned n) in
       (reads-rx _ _ _ (ap (readRx (a .0 .setup .ext)) there ∙ back .0), hands-out _ _ (ap payload there ∙ back .1));
   read-tx = λ k a r e h m is small plain none buffer room.
       let again = rewrite-tx (a .0) (now (a .1 .0)) m small (sym h ∙ ap txAnswer is) .stands plain none buffer room in
