@@ -1,6 +1,6 @@
--- Demand 2 of the code: "What the writers write reads back the same; an accepted plain packet is rewritten to the same
--- bytes", since 02 one without a type 4 item. RoundTrip and Rewrite say so of the definitions; here are the functions, by
--- their promises (as in Tight).
+-- Demand 2 of the code: "What the writers write reads back as the same message; an accepted packet in 01's plain form is rewritten to the
+-- same bytes", since 02 one without a type 4 item. RoundTrip and Rewrite say so of the definitions; here are the functions, by their
+-- promises (as in Tight).
 use Prim.Native.Nat.{ℕ, _-_, _≤_}
 use mathlib.Core.Path.{_≡_}
 use mathlib.Core.Bool.{true, false}
