@@ -1,5 +1,5 @@
 // The bench of document 01: every call in one place, from the crates that make them. Seats and events: `seats`; a packet and
-// totals: `hearing`; a report: `reporting`; a tick with its reports: `sending`; who is on the air: `air`, kept in the record: `record`.
+// totals: `hearing`, a packet with its audio in one call: `relaying`; a report: `reporting`; a tick with its reports: `sending`; who is on the air: `air`, kept in the record: `record`.
 // specs/Step.antt has every call as one definition; proofs/Keeping.antt, that keeping the air changes no answer.
 pub use air::aired;
 pub use hearing::Hearing;
@@ -15,6 +15,8 @@ pub use record::Kind;
 pub use record::Setup;
 pub use record::Totals;
 pub use record::kind_code;
+pub use relaying::Relayed;
+pub use relaying::relay;
 pub use reporting::Reported;
 pub use reporting::report;
 pub use seats::CallType;

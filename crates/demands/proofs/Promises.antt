@@ -3,3 +3,4 @@ pub mod ReadBack
 pub mod StepOfCode
 pub mod Tight
 pub mod AsksNothing
+pub mod Walked

@@ -33,3 +33,4 @@ pub mod Tight
 pub mod AsksNothing
 pub mod StepOfCode
 pub mod BothWays
+pub mod Walked

@@ -3,7 +3,7 @@ use base.Logic.{ent, emp, id⊢}
 use borrow.Fn.World.{World}
 use Rattle.demands.specs.AsksNothing.{AsksNothingBase, AsksNothingPacket, AsksNothingItems, AsksNothingReader, AsksNothingWriter, AsksNothingRecord, AsksNothingSeats, AsksNothingAir, AsksNothingHearing, AsksNothingFraming, AsksNothingReporting, AsksNothingSending, AsksNothingText, AsksNothingWords, AsksNothingShow, AsksNothingGrammar, AsksNothing}
 
-nothing : (w : World) → ent (w .𝓤) (emp (w .𝓤)) (emp (w .𝓤))
+pub nothing : (w : World) → ent (w .𝓤) (emp (w .𝓤)) (emp (w .𝓤))
 nothing w = id⊢ (w .𝓤) (emp (w .𝓤))
 
 pub asks-nothing-base : AsksNothingBase
