@@ -1,16 +1,16 @@
 -- The rank of each seat, at each place of the order, says what the list of keyings says.
-use Prim.Native.Nat.{ℕ, _-_, max}
-use mathlib.Core.Path.{_≡_, refl, ap, sym, _∙_}
+use Prim.Native.Nat.{ℕ, max}
+use mathlib.Core.Path.{_≡_, refl, ap, _∙_}
 use mathlib.Core.Bool.{Bool, true, false, cond, not, _&&_, and-false}
 use mathlib.Core.List.{List, [], _∷_, map}
 use native.Mathlib.Omega.{arith}
 use borrow.Author.Tests.{ne-eqb, ltb-true, ltb-false}
 use lib.Dec.{eqb, ltb}
-use lib.ListN.{getD, List·getD-map}
-use Rattle.record.specs.Record.{noSuchSeat, closedSeat, seatOf}
+use Rattle.record.specs.Record.{closedSeat, seatOf}
 use Rattle.air.specs.Air.{rank, takesPart, keyingsOf, keyingOf, topRank, atRank}
 use Rattle.air.specs.Marks.{standing, standingOf, rankOf, highest, seatsAt}
 use Rattle.record.specs.declared.seat.Seat.{Seat}
+use Rattle.record.proofs.Seats.{entry-changed}
 
 module _ (healthy : Bool) (seats : List Seat) where
   abbrev pub rankNow : ℕ → ℕ
@@ -33,14 +33,10 @@ module _ (healthy : Bool) (seats : List Seat) where
 
   rank-of-seat : (n : ℕ) → rankOf (map (standingOf healthy) seats) n ≡ rankNow n
   unfolding rankOf seatOf standing
-  rank-of-seat n = by-number (noSuchSeat n) ∙ stands (seatOf seats n)
+  rank-of-seat n = entry-changed (standingOf healthy) closedSeat none seats n ∙ stands (seatOf seats n)
     where
       none : standingOf healthy closedSeat ≡ 0
       none = rw (and-false healthy)
-
-      by-number : (t : Bool) → cond t 0 (getD (map (standingOf healthy) seats) (n - 1) 0) ≡ standingOf healthy (cond t closedSeat (getD seats (n - 1) closedSeat))
-      by-number true = sym none
-      by-number false = ap (getD (map (standingOf healthy) seats) (n - 1)) (sym none) ∙ List·getD-map (standingOf healthy) seats (n - 1) closedSeat
 
   pub ranks-in-order : (order : List ℕ) → map (rankOf (map (standingOf healthy) seats)) order ≡ map rankNow order
   ranks-in-order [] = refl

@@ -1,12 +1,12 @@
 -- For proofs alone, what the private functions find: the rank of each seat, then at each place of the order, and a set of
 -- seats as eight marks. proofs/AirFound.antt shows that it is what Air says.
-use Prim.Native.Nat.{ℕ, _+_, _-_, max}
+use Prim.Native.Nat.{ℕ, _+_, max}
 use mathlib.Core.Bool.{Bool, true, false, cond, not, _&&_, _||_}
 use mathlib.Core.List.{List, [], _∷_, map, foldl}
 use lib.Dec.{eqb, ltb, leb}
 use lib.ListN.{getD}
 use Rattle.base.specs.Lists.{howMany}
-use Rattle.record.specs.Record.{seatNumbers, noSuchSeat, closedSeat}
+use Rattle.record.specs.Record.{seatNumbers, closedSeat, entryOf}
 use Rattle.air.specs.Air.{rank, couplingRank, theFirst, among}
 use Rattle.record.specs.declared.seat.Seat.{Seat}
 
@@ -19,7 +19,7 @@ standingOf healthy s = standing healthy (s .opened) (s .heard .field .pm) (s .he
 
 -- The rank of the seat of a number; what is no seat's number has none.
 unfoldable pub rankOf : (standings : List ℕ) → (n : ℕ) → ℕ
-rankOf standings n = cond (noSuchSeat n) 0 (getD standings (n - 1) 0)
+rankOf standings n = entryOf 0 standings n
 
 unfoldable pub highest : (ranks : List ℕ) → ℕ
 highest [] = 0

@@ -7,7 +7,7 @@ use mathlib.Core.Path.{_≡_}
 use mathlib.Core.Bool.{Bool, true, false, cond, not, _&&_, _||_}
 use mathlib.Core.List.{List, [], _∷_, _++_, map}
 use lib.Dec.{ltb, eqb}
-use lib.ListN.{take, drop, getD}
+use lib.ListN.{take, drop}
 use Rattle.base.specs.Bytes.{number16, bytes16, placed}
 use Rattle.packet.specs.Packet.{pttType, pttId, ptts, test}
 use Rattle.packet.specs.Refusals.{Answer, accepted, refused, mapped}
@@ -68,12 +68,12 @@ asSeen while bytes = cond while bytes (blotted bytes)
 
 -- a tick's flags, of live seats only
 unfoldable pub amongLive : Setup → List Bool → List Bool
-amongLive setup flags = map (λ n. not (lesson setup n) && getD flags (n - 1) false) seatNumbers
+amongLive setup flags = map (λ n. not (lesson setup n) && entryOf false flags n) seatNumbers
 
 -- and its records: 02, request 6: "Under demand 3 each live seat's record is compared by itself", as a report is. Those of lesson seats
 -- may come and go, and with them the bytes used.
 unfoldable pub recordsSeen : Setup → (while : Bool) → (records : List (List ℕ)) → List (List ℕ)
-recordsSeen setup while records = map (λ n. cond (lesson setup n) [] (asSeen while (getD records (n - 1) []))) seatNumbers
+recordsSeen setup while records = map (λ n. cond (lesson setup n) [] (asSeen while (entryOf [] records n))) seatNumbers
 
 -- What of an answer has to be the same: of reports what is said above, of "All other answers" everything, but at other times not whether
 -- a packet that keys Test is sent, nor its audio.

@@ -1,7 +1,7 @@
 -- Demand 2 of the code: "What the writers write reads back as the same message; an accepted packet in 01's plain form is rewritten to the
 -- same bytes", since 02 one without a type 4 item. RoundTrip and Rewrite say so of the definitions; here are the functions, by their
 -- promises (as in Tight).
-use Prim.Native.Nat.{ℕ, _-_, _≤_}
+use Prim.Native.Nat.{ℕ, _≤_}
 use mathlib.Core.Path.{_≡_}
 use mathlib.Core.Bool.{true, false}
 use mathlib.Core.List.{List, [], _++_}
@@ -9,10 +9,10 @@ use contract.Lifetimes.{Lfts}
 use denote.Ref.{now}
 use borrow.Fn.Kind.{PK}
 use borrow.Fn.Kinds.{Dens, GoodsP}
-use lib.ListN.{length, take, drop, getD}
+use lib.ListN.{length, take, drop}
 use Rattle.base.specs.Bytes.{Bytes}
 use Rattle.packet.specs.Packet.{payload}
-use Rattle.record.specs.Record.{noSuchSeat}
+use Rattle.record.specs.Record.{entryOf}
 use Rattle.reporting.specs.Reporting.{reportOf}
 use Rattle.sending.specs.Sending.{afterClosings}
 use Rattle.packet.specs.declared.message.Tx.{Tx}
@@ -68,8 +68,8 @@ pub record BothWays : Type 1 where
       → ReadsRx (b .setup .ext) (take long (now (e .1 .1 .1 .1 .0))) (reportOf b n timestamp) × HandsOut (take long (now (e .1 .1 .1 .1 .0))) (now sound))
   -- and each report of a tick, which makes the air right itself: of seat n, among the frames read back along the seats that are due
   pub written-tick : GivesCalled sending.tick.Kinds.ps sending.tick.Reads.Learnt (λ k (b, (ms, (timestamp, (out, end)))) r e.
-      (used n : ℕ) → r .answer ≡ written.Length used → noSuchSeat n ≡ false → getD (r .seats .due) (n - 1) false ≡ true
-      → let bytes = getD (readBack (r .seats .due) (take used (now (e .1 .1 .1 .0)))) (n - 1) [] in
+      (used n : ℕ) → r .answer ≡ written.Length used → entryOf false (r .seats .due) n ≡ true
+      → let bytes = entryOf [] (readBack (r .seats .due) (take used (now (e .1 .1 .1 .0)))) n in
       ReadsRx (b .setup .ext) bytes (reportOf (afterClosings b ms) n timestamp) × HandsOut bytes [])
   -- what was read of a plain packet without a type 4 item is written to the same bytes, into every buffer with room for them
   pub read-tx : Gives reader.read_tx.Reads.Learnt (λ k (ext, (p, end)) r e.

@@ -2,14 +2,14 @@
 -- the same bench as ticking a + b. The closed seats are the same taken together, and so are the due seats among those still open.
 -- A tick of 0 changes nothing. A seat that was due in the first and closed in the second is the one difference; say so." And request 6:
 -- "Request 4 then holds for all but the report sequence numbers, which may run further after two ticks."
-use Prim.Native.Nat.{ℕ, _+_, _-_, _≤_, _<_}
+use Prim.Native.Nat.{ℕ, _+_, _≤_, _<_}
 use mathlib.Core.Path.{_≡_}
 use mathlib.Core.Bool.{Bool, true, false, not, _&&_, _||_}
 use mathlib.Core.List.{List, [], _∷_, map}
 use mathlib.Core.Logic.{_↔_}
-use lib.ListN.{length, getD, replicate}
+use lib.ListN.{length, replicate}
 use Rattle.packet.specs.Refusals.{NoCase, accepted}
-use Rattle.record.specs.Record.{noSuchSeat, seatOf, withSequences}
+use Rattle.record.specs.Record.{entryOf, seatOf, withSequences}
 use Rattle.seats.specs.Ticking.{silentSeats, dueSeats}
 use Rattle.sending.specs.Sending.{mostSent, tickRefusals, records, reportedTo, noSeats, tickBuffer, runsFurther}
 use Rattle.bench.specs.Step.{Call, tick, ticked, keeping, after}
@@ -45,7 +45,7 @@ pub record ToldAlike (closed₁ closed₂ closed due₁ due₂ due isOpen : Bool
 
 -- Is seat n in the set? (A tick answers sets of seats as flags, seat 1 first.)
 unfoldable pub isIn : (set : List Bool) (n : ℕ) → Bool
-isIn set n = not (noSuchSeat n) && getD set (n - 1) false
+isIn set n = entryOf false set n
 
 -- Two ticks, and the merged one: the same bench in every field but the report sequence numbers, of which those that run further
 -- (runsFurther) are one further, as if one report more had been written; and the same told but for the one difference.

@@ -1,13 +1,12 @@
 -- For teachers, from demand 3: whatever lesson seats do, while a healthy transmitter has an unmuted live keying above Test,
 -- who is on the air, the audio sent and every report to a live seat, asked for or sent with a tick, are those of a bench on which no
 -- lesson seat was ever opened.
-use Prim.Native.Nat.{ℕ, _-_}
+use Prim.Native.Nat.{ℕ}
 use mathlib.Core.Path.{_≡_}
-use mathlib.Core.Bool.{true, false, cond}
+use mathlib.Core.Bool.{true, false}
 use mathlib.Core.List.{List, []}
-use lib.ListN.{getD}
 use Rattle.packet.specs.Refusals.{Answer, accepted, refused}
-use Rattle.record.specs.Record.{seatNumbers, noSuchSeat, lesson, freshBench}
+use Rattle.record.specs.Record.{seatNumbers, entryOf, lesson, freshBench}
 use Rattle.air.specs.Air.{benchAir}
 use Rattle.bench.specs.Step.{Call, packet, tick, report, Said, done, own, heard, ticked, written, totalled, keeping, after}
 use Rattle.record.specs.declared.setup.Setup.{Setup}
@@ -19,7 +18,7 @@ unfoldable pub recordTo : (n : ℕ) → Answer Said → List ℕ
 recordTo n (accepted done) = []
 recordTo n (accepted (own id)) = []
 recordTo n (accepted (heard h sound)) = []
-recordTo n (accepted (ticked closed due records)) = cond (noSuchSeat n) [] (getD records (n - 1) [])
+recordTo n (accepted (ticked closed due records)) = entryOf [] records n
 recordTo n (accepted (written bytes)) = []
 recordTo n (accepted (totalled packets missing)) = []
 recordTo n (refused k cause) = []

@@ -1,6 +1,6 @@
 -- 01, The bench and its calls: the record, what it holds at the start, and a seat just opened.
 use Prim.Native.Nat.{ℕ, _*_, _-_}
-use mathlib.Core.Bool.{Bool, true, false, cond, not, _&&_, _||_}
+use mathlib.Core.Bool.{Bool, true, false, cond, _||_}
 use mathlib.Core.List.{List, [], _∷_}
 use lib.Dec.{ltb, eqb}
 use lib.IntN.{ℤ, pos}
@@ -73,21 +73,25 @@ freshBench setup =
       air = nobody;
     }
 
--- What an array with a place for each seat holds for seat n; `none` for what is no seat's number.
-abbrev pub entryOf : {A : Type 0} → (none : A) → List A → (n : ℕ) → A
-entryOf none entries n = cond (noSuchSeat n) none (getD entries (n - 1) none)
-
 -- Where the seat of a number stands; 0 for what is no seat's number.
 abbrev pub placeOf : (n : ℕ) → ℕ
 placeOf n = cond (noSuchSeat n) 0 (n - 1)
 
+-- What an array with a place for each seat holds for seat n; `none` for what is no seat's number.
+abbrev pub entryOf : {A : Type 0} → (none : A) → List A → (n : ℕ) → A
+entryOf none entries n = cond (noSuchSeat n) none (getD entries (n - 1) none)
+
+-- The array with another entry for seat n, and as it was for what is no seat's number.
+abbrev pub withEntry : {A : Type 0} → List A → (n : ℕ) → A → List A
+withEntry entries n entry = cond (noSuchSeat n) entries (set entries (n - 1) entry)
+
 -- The seat of a number; a number that is no seat's counts as a closed one.
 unfoldable pub seatOf : List Seat → ℕ → Seat
-seatOf seats n = cond (noSuchSeat n) closedSeat (getD seats (n - 1) closedSeat)
+seatOf seats n = entryOf closedSeat seats n
 
 -- "which seats are lesson seats (the others are live)"
 unfoldable pub lesson : Setup → ℕ → Bool
-lesson setup n = not (noSuchSeat n) && getD (setup .lesson) (n - 1) false
+lesson setup n = entryOf false (setup .lesson) n
 
 -- The bench with one thing changed. (A record is written out whole here and in freshBench alone: antt has no shorter way to
 -- say "the same but for".)
@@ -191,10 +195,10 @@ withAir b air =
 
 -- One seat, and the sequence number of its next report.
 abbrev pub withSeat : Bench → (n : ℕ) → Seat → Bench
-withSeat b n seat = withSeats b (set (b .seats) (n - 1) seat)
+withSeat b n seat = withSeats b (withEntry (b .seats) n seat)
 
 abbrev pub withSequence : Bench → (n sequence : ℕ) → Bench
-withSequence b n sequence = withSequences b (set (b .sequences) (n - 1) sequence)
+withSequence b n sequence = withSequences b (withEntry (b .sequences) n sequence)
 
 -- "State and buffers stay the same" where a call is refused.
 abbrev pub settled : {A : Type 0} → Answer A → (before after : Bench) → Bench

@@ -1,11 +1,10 @@
--- A report's call in steps: 13, 14 and 25, then the writer's 26. In front, what is at a number that may be no seat's.
-use Prim.Native.Nat.{ℕ, _-_, _≤_}
+-- A report's call in steps: 13, 14 and 25, then the writer's 26.
+use Prim.Native.Nat.{ℕ}
 use mathlib.Core.Path.{_≡_, refl, ap, sym, _∙_}
-use mathlib.Core.Bool.{Bool, true, false, cond, not}
+use mathlib.Core.Bool.{Bool, true, false, cond}
 use mathlib.Core.List.{List, [], _∷_, _++_}
 use lib.Dec.{ltb}
-use native.Mathlib.Omega.{arith}
-use lib.ListN.{length, getD, List·getD-eq-default}
+use lib.ListN.{length}
 use Rattle.packet.specs.Refusals.{_if_, Answer, accepted, refused, refusal, verdictOf, judged}
 use Rattle.writer.specs.Writing.{fromRx, encode, filled, putRefusals, put, afterPut}
 use Rattle.packet.specs.declared.refusal.Refusal.{Refusal}
@@ -17,10 +16,6 @@ use Rattle.seats.specs.Opening.{seatRefusals, seatVerdict}
 use Rattle.reporting.specs.Reporting.{audioBarred, reportOf, reportBytes, reportRefusals, reportSaid, reportBuffer}
 use Rattle.reporting.specs.Pieces.{reportVerdict}
 use Rattle.record.specs.declared.whole.Bench.{Bench}
-
--- what stands at a seat's number, past the eight too
-pub past-eight : {A : Type 0} (l : List A) (d : A) (n i : ℕ) → length l ≡ 8 → i ≡ n - 1 → 8 ≤ i → d ≡ getD l (n - 1) d
-past-eight l d n i eight at past = sym (List·getD-eq-default l d (omega arith))
 
 module _ (n : ℕ) (opened : Bool) (signals audio : ℕ) where
   pub seat-passed : {v : Verdict} → v ≡ Fine → verdictOf v ≡ reportVerdict n opened signals audio → noSuchSeat n ≡ false

@@ -1,19 +1,18 @@
 -- What a report tells fits its bits where the air in the record is right: then its message is writable, and 27 would not come.
-use Prim.Native.Nat.{ℕ, _-_, _≤_}
+use Prim.Native.Nat.{ℕ, _≤_}
 use mathlib.Core.Path.{_≡_, refl}
 use mathlib.Core.Bool.{Bool, true, false, cond, not, _&&_, _||_}
 use native.Mathlib.Omega.{arith}
 use borrow.Author.Tests.{le-leb, not-false}
 use lib.Dec.{eqb}
 use lib.IntN.{ℤ}
-use lib.ListN.{getD}
 use Rattle.base.proofs.Truths.{either-most, or-left}
 use Rattle.packet.specs.Packet.{audioLength}
 use Rattle.packet.specs.Quality.{quality}
 use Rattle.packet.proofs.QualityLaws.{quality-most}
 use Rattle.writer.specs.Writing.{fromRx, sqiWritable, writable}
 use Rattle.packet.specs.declared.message.SqiItem.the-variants as sqi
-use Rattle.record.specs.Record.{noSuchSeat}
+use Rattle.record.specs.Record.{noSuchSeat, entryOf}
 use Rattle.record.proofs.Seats.{seat-in-range}
 use Rattle.air.specs.Air.{benchAir}
 use Rattle.air.proofs.Bounds.{ptt-most, id-most}
@@ -21,7 +20,7 @@ use Rattle.reporting.specs.Reporting.{idTold, squTold, sqiTold, audioBar
 use Rattle.record.specs.declared.whole.Bench.{Bench}
 
 pub id-told-most : (b : Bench) (n : ℕ) → noSuchSeat n ≡ false → idTold (benchAir b) n ≤ 8
-id-told-most b n h = either-most (getD (benchAir b .leads) (n - 1) false) n (benchAir b .id) (seat-in-range n h .1) (id-most b)
+id-told-most b n h = either-most (entryOf false (benchAir b .leads) n) n (benchAir b .id) (seat-in-range n h .1) (id-most b)
 
 sqi-writable : (signals : ℕ) (level : ℤ) → sqiWritable (sqiTold signals level) ≡ true
 sqi-writable signals level = by-squ (squTold signals)

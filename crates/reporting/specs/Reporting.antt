@@ -1,10 +1,10 @@
 -- 01, Report to a seat.
-use Prim.Native.Nat.{ℕ, _+_, _-_, _%_}
+use Prim.Native.Nat.{ℕ, _+_, _%_}
 use mathlib.Core.Bool.{Bool, false, cond, not, _&&_, _||_}
 use mathlib.Core.List.{List, [], _∷_, _++_}
 use lib.Dec.{ltb, leb, eqb}
 use lib.IntN.{ℤ}
-use lib.ListN.{length, getD}
+use lib.ListN.{length}
 use Rattle.packet.specs.Items.{rssi}
 use Rattle.packet.specs.Quality.{quality}
 use Rattle.packet.specs.Refusals.{Case, _if_, Answer, judged}
@@ -13,7 +13,7 @@ use Rattle.packet.specs.declared.message.SqiItem.{SqiItem}
 use Rattle.packet.specs.declared.message.SqiItem.the-variants as sqi
 use Rattle.packet.specs.declared.message.Rx.{Rx}
 use Rattle.record.specs.Kind.{kindOf, sideTold}
-use Rattle.record.specs.Record.{seatOf, withSequence}
+use Rattle.record.specs.Record.{entryOf, seatOf, withSequence}
 use Rattle.seats.specs.Opening.{seatRefusals}
 use Rattle.record.specs.declared.whole.Bench.{Bench}
 use Rattle.record.specs.declared.shown.Air.{Air}
@@ -21,7 +21,7 @@ use Rattle.record.specs.declared.shown.Air.{Air}
 -- "ptt-id: 0 if off; the seat's own if it is on the air at the top rank; else the smallest on the air at the top rank."
 -- (A seat that leads is keyed, so TxRx or Coupling, and its own ptt-id is its number: Kept, may-key.)
 abbrev pub idTold : Air → (n : ℕ) → ℕ
-idTold air n = cond (getD (air .leads) (n - 1) false) n (air .id)
+idTold air n = cond (entryOf false (air .leads) n) n (air .id)
 
 -- "SQU: 1 signal or more. SCT: 2 or more."
 abbrev pub squTold : (signals : ℕ) → Bool
@@ -39,7 +39,7 @@ sqiTold signals level = cond (squTold signals) (sqi.Is (quality level) rssi) sqi
 unfoldable pub reportOf : Bench → (n timestamp : ℕ) → Rx
 reportOf b n timestamp =
     record {
-      sequence = getD (b .sequences) (n - 1) 0;
+      sequence = entryOf 0 (b .sequences) n;
       timestamp = timestamp;
       ssrc = seatOf (b .seats) n .ssrc;
       ptt = b .air .ptt;
@@ -81,4 +81,4 @@ abbrev pub nextSequence : (last : ℕ) → ℕ
 nextSequence last = (last + 1) % 65536
 
 unfoldable pub reportedBench : Bench → (n : ℕ) → Bench
-reportedBench b n = withSequence b n (nextSequence (getD (b .sequences) (n - 1) 0))
+reportedBench b n = withSequence b n (nextSequence (entryOf 0 (b .sequences) n))

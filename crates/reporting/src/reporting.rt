@@ -1,11 +1,10 @@
 // Reports to a seat: the message, the refusals in front of it, and the sequence number behind it.
 ghost use mathlib.Core.Path.{_≡_};
 ghost use mathlib.Core.Bool.{false};
-ghost use Prim.Native.Nat.{_-_};
-ghost use lib.ListN.{length, getD};
+ghost use lib.ListN.{length};
 ghost use Rattle.writer.specs.Writing.{fromRx, put, afterPut, writtenAnswer};
 ghost use Rattle.packet.specs.Refusals.{verdictOf};
-ghost use Rattle.record.specs.Record.{noSuchSeat, settled};
+ghost use Rattle.record.specs.Record.{noSuchSeat, entryOf, settled};
 ghost use Rattle.reporting.specs.Reporting.{idTold, sqiTold, audioBarred, reportOf, reportSaid, reportBuffer, nextSequence, reportedBench};
 ghost use Rattle.reporting.specs.Pieces.{reportVerdict};
 use packet::Refusal;
@@ -18,6 +17,7 @@ use record::Air;
 use record::Bench;
 use record::kind::kind_of;
 use record::kind::side_told;
+use record::no_such_seat;
 use record::place;
 use record::seat_of;
 use seats::opening::seat_verdict;
@@ -120,30 +120,25 @@ pub fn report_of(b: Bench, n: u8, timestamp: u32) -> Rx
     }
 }
 
-// A seat's number, counted from 0.
-fn from_zero(n: u8) -> usize
-    ensures { λ r. ⌜ r ≡ n - 1 ⌝ }
-{
-    if n == 0 { 0 } else { (n - 1) as usize }
-}
-
-// The number of the seat's next report.
+// The number of the seat's next report; 0 for what is no seat's number.
 fn sequence_of(sequences: [u16; 8], n: u8) -> u16
-    ensures { λ r. ⌜ r ≡ getD sequences (n - 1) 0 ⌝ }
+    ensures { λ r. ⌜ r ≡ entryOf 0 sequences n ⌝ }
 {
-    let i = from_zero(n);
-    if i < 8 { sequences[i] } else { 0 }
+    if no_such_seat(n) {
+        return 0;
+    }
+    sequences[(n - 1) as usize]
 }
 
 // The seat's own ptt-id if it is on the air at the top rank, else the smallest there, 0 if nobody is.
 fn id_told(air: Air, n: u8) -> u8
     ensures { λ r. ⌜ r ≡ idTold air n ⌝ }
 {
-    let i = from_zero(n);
-    if 8 <= i {
+    if no_such_seat(n) {
         return air.id;
     }
-    if air.leads[i] { n } else { air.id }
+    let leads = air.leads[(n - 1) as usize];
+    if leads { n } else { air.id }
 }
 
 // Method RSSI, whose code is 0, exactly while a signal is received.

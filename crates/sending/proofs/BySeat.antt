@@ -5,7 +5,7 @@ use mathlib.Core.Bool.{Bool, false}
 use mathlib.Core.List.{List, [], _∷_}
 use native.Mathlib.Omega.{arith}
 use lib.ListN.{getD}
-use Rattle.record.specs.Record.{noSuchSeat}
+use Rattle.record.specs.Record.{noSuchSeat, entryOf}
 use Rattle.record.proofs.Seats.{seat-in-range}
 use Rattle.sending.specs.Sending.{recordFor, recordsFrom}
 use Rattle.record.specs.declared.whole.Bench.{Bench}
@@ -20,8 +20,8 @@ module _ (shown : Bench) (timestamp : ℕ) where
       record-at (suc n) ds k ∙ ap (λ (j : ℕ). recordFor shown timestamp j (getD ds k false)) next
 
   pub seat-record : (due : List Bool) (n : ℕ) → noSuchSeat n ≡ false
-      → getD (recordsFrom shown timestamp 1 due) (n - 1) [] ≡ recordFor shown timestamp n (getD due (n - 1) false)
+      → entryOf [] (recordsFrom shown timestamp 1 due) n ≡ recordFor shown timestamp n (entryOf false due n)
   seat-record due n real =
       let r = seat-in-range n real in
       let here : 1 + (n - 1) ≡ n = omega arith in
-      record-at 1 due (n - 1) ∙ ap (λ (j : ℕ). recordFor shown timestamp j (getD due (n - 1) false)) here
+      rw real (record-at 1 due (n - 1) ∙ ap (λ (j : ℕ). recordFor shown timestamp j (getD due (n - 1) false)) here)

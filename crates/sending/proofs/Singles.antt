@@ -6,15 +6,14 @@ use mathlib.Core.List.{List, [], _∷_, _++_, map, append-nil}
 use native.Mathlib.Omega.{arith}
 use borrow.Author.Tests.{le-ltb}
 use lib.ListN.{length, getD, set, replicate, length-map}
-use lib.Seq.{getD-set-other}
 use Rattle.base.proofs.Places.{map-place}
 use Rattle.base.proofs.Truths.{and-none}
 use Rattle.packet.specs.Refusals.{NoCase}
 use Rattle.packet.specs.declared.message.Rx.{Rx}
 use Rattle.framing.specs.Framing.{framed}
 use Rattle.writer.specs.Writing.{fromRx, encode}
-use Rattle.record.specs.Record.{closedSeat, seatOf, withSequences}
-use Rattle.record.proofs.Seats.{open-is-seat, seat-at}
+use Rattle.record.specs.Record.{closedSeat, entryOf, seatOf, withSequences}
+use Rattle.record.proofs.Seats.{real-at, entry-elsewhere, open-is-seat, seat-at}
 use Rattle.air.specs.Air.{keyings, benchAir, aired}
 use Rattle.seats.specs.Opening.{seatRefusals}
 use Rattle.seats.specs.Ticking.{isDue, tickedSeat, dueSeats, tickedBench}
@@ -42,10 +41,10 @@ afterSingles b n (false ∷ ds) = afterSingles b (suc n) ds
 -- ---- what they write
 
 -- A report reads the number of its own seat alone, so one to seat n changes none to a seat behind it.
-module _ (b : Bench) (timestamp n : ℕ) (some : 1 ≤ n) where
+module _ (b : Bench) (timestamp n : ℕ) where
   other-report : (m : ℕ) → n < m → reportOf (reportedBench b n) m timestamp ≡ reportOf b m timestamp
   unfolding reportOf reportedBench
-  other-report m h = rw (getD-set-other (b .sequences) (n - 1) (m - 1) (nextSequence (getD (b .sequences) (n - 1) 0)) 0 (λ (e : m - 1 ≡ n - 1). omega arith))
+  other-report m h = rw (entry-elsewhere 0 (b .sequences) n m (nextSequence (entryOf 0 (b .sequences) n)) (λ (e : m ≡ n). omega arith))
 
   other-bytes : (m : ℕ) → n < m → reportBytes (reportedBench b n) m timestamp [] ≡ reportBytes b m timestamp []
   unfolding reportBytes reportedBench
@@ -58,13 +57,13 @@ module _ (b : Bench) (timestamp n : ℕ) (some : 1 ≤ n) where
   other-records m (false ∷ ds) h = ap (λ (rs : List (List ℕ)). [] ∷ rs) (other-records (suc m) ds (omega arith))
 
 -- so they write the records of the bench before them
-single-frames : (b : Bench) (timestamp n : ℕ) (due : List Bool) → 1 ≤ n → singleFrames b timestamp n due ≡ inOrder (recordsFrom b timestamp n due)
+single-frames : (b : Bench) (timestamp n : ℕ) (due : List Bool) → singleFrames b timestamp n due ≡ inOrder (recordsFrom b timestamp n due)
 unfolding singleFrames inOrder recordsFrom
-single-frames b timestamp n [] some = refl
-single-frames b timestamp n (true ∷ ds) some =
-    let rest = single-frames (reportedBench b n) timestamp (suc n) ds (omega arith) ∙ ap inOrder (other-records b timestamp n some (suc n) ds (omega arith)) in
+single-frames b timestamp n [] = refl
+single-frames b timestamp n (true ∷ ds) =
+    let rest = single-frames (reportedBench b n) timestamp (suc n) ds ∙ ap inOrder (other-records b timestamp n (suc n) ds (omega arith)) in
     ap₂ (λ (x y : List ℕ). x ++ y) (sym (report-framed b timestamp n)) rest
-single-frames b timestamp n (false ∷ ds) some = single-frames b timestamp (suc n) ds (omega arith)
+single-frames b timestamp n (false ∷ ds) = single-frames b timestamp (suc n) ds
 
 -- ---- the bench after them
 
@@ -87,15 +86,16 @@ none-before zero ds = refl
 none-before (suc k) ds = ap (λ (l : List Bool). false ∷ l) (none-before k ds)
 
 -- so they leave the bench with the number of each such seat one further
-after-singles : (b : Bench) (k : ℕ) (due : List Bool) → afterSingles b (suc k) due ≡ reportedTo (none k ++ due) b
+after-singles : (b : Bench) (k : ℕ) (due : List Bool) → k + length due ≤ 8 → afterSingles b (suc k) due ≡ reportedTo (none k ++ due) b
 unfolding afterSingles reportedBench
-after-singles b k [] = ap (withSequences b) (sym (ap (λ (l : List Bool). oneFurther l (b .sequences)) (append-nil (none k)) ∙ none-further k (b .sequences)))
-after-singles b k (true ∷ ds) =
+after-singles b k [] few = ap (withSequences b) (sym (ap (λ (l : List Bool). oneFurther l (b .sequences)) (append-nil (none k)) ∙ none-further k (b .sequences)))
+after-singles b k (true ∷ ds) few =
     let here : suc k - 1 ≡ k = omega arith in
-    after-singles (reportedBench b (suc k)) (suc k) ds
-    ∙ ap (λ (i : ℕ). withSequences b (oneFurther (none (suc k) ++ ds) (set (b .sequences) i (nextSequence (getD (b .sequences) i 0))))) here
+    let its-number = real-at k (omega arith) in
+    after-singles (reportedBench b (suc k)) (suc k) ds (omega arith)
+    ∙ rw its-number (ap (λ (i : ℕ). withSequences b (oneFurther (none (suc k) ++ ds) (set (b .sequences) i (nextSequence (getD (b .sequences) i 0))))) here)
     ∙ ap (withSequences b) (sym (further-then k ds (b .sequences)))
-after-singles b k (false ∷ ds) = after-singles b (suc k) ds ∙ ap (λ (l : List Bool). reportedTo l b) (sym (none-before k ds))
+after-singles b k (false ∷ ds) few = after-singles b (suc k) ds (omega arith) ∙ ap (λ (l : List Bool). reportedTo l b) (sym (none-before k ds))
 
 -- ---- none is refused
 
@@ -124,9 +124,9 @@ module _ (b : Bench) (ms : ℕ) where
   -- It sends what they write on the bench after its closings, with the air of that bench;
   pub sent-as-singles : (timestamp : ℕ) → sentBytes b ms timestamp ≡ singleFrames (aired (tickedBench b ms)) timestamp 1 (dueSeats b ms)
   unfolding sentBytes records
-  sent-as-singles timestamp = sym (single-frames (aired (tickedBench b ms)) timestamp 1 (dueSeats b ms) (omega arith))
+  sent-as-singles timestamp = sym (single-frames (aired (tickedBench b ms)) timestamp 1 (dueSeats b ms))
 
   -- and it leaves the bench that they leave.
-  pub left-as-singles : aired (sentBench b ms) ≡ afterSingles (aired (tickedBench b ms)) 1 (dueSeats b ms)
+  pub left-as-singles : length (b .seats) ≤ 8 → aired (sentBench b ms) ≡ afterSingles (aired (tickedBench b ms)) 1 (dueSeats b ms)
   unfolding sentBench benchAir keyings
-  left-as-singles = sym (after-singles (aired (tickedBench b ms)) 0 (dueSeats b ms))
+  left-as-singles eight = sym (after-singles (aired (tickedBench b ms)) 0 (dueSeats b ms) (omega (arith, length-map (b .seats) (isDue ms))))

@@ -67,6 +67,6 @@ as-singles b ms timestamp room buffer eight enough none =
           ∙ ap (λ (x : List ℕ). x ++ drop (length x) buffer) sent;
       bench =
           accepted-bench b (tick ms timestamp (length buffer)) none
-          ∙ left-as-singles b ms
+          ∙ left-as-singles b ms eight
           ∙ sym (singles-leave timestamp room enough (afterClosings b ms) 1 (dueSeats b ms) up);
     }

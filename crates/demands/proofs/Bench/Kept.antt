@@ -5,14 +5,14 @@ use mathlib.Core.Bool.{Bool, true, false, false≢true, cond}
 use mathlib.Core.List.{List, [], _∷_}
 use native.Mathlib.Omega.{arith}
 use lib.Dec.{eqb}
-use lib.ListN.{length, getD, set, length-set}
+use lib.ListN.{length, getD}
 use borrow.Author.Tests.{eqb-true}
 use Rattle.base.specs.Lists.{howMany}
 use Rattle.base.proofs.Places.{set-cases, all-alike}
 use Rattle.packet.specs.Refusals.{NoCase}
 use Rattle.packet.specs.declared.message.Tx.{Tx}
 use Rattle.record.specs.Kind.{kindOf, hasOneSide}
-use Rattle.record.specs.Record.{closedSeat, openedSeat, freshBench, seatOf}
+use Rattle.record.specs.Record.{closedSeat, openedSeat, freshBench, withEntry, seatOf}
 use Rattle.seats.specs.Opening.{callCode, asksCoupling, holdsCoupling, openedBench, closedBench}
 use Rattle.seats.specs.Ticking.{tickedSeat, dueSeats, tickedBench}
 use Rattle.hearing.specs.Hearing.{fieldHeard, heardSeat, heardBench, messageIn}
@@ -31,7 +31,7 @@ use Rattle.seats.proofs.TickingLaws.{ticked-cases}
 use Rattle.seats.proofs.Accepted.{open-accepted, side-accepted}
 use Rattle.hearing.proofs.Sides.{side-stays}
 use Rattle.hearing.proofs.Accepted.{packet-accepted}
-use Rattle.record.proofs.Seats.{seat-of-eight-closed}
+use Rattle.record.proofs.Seats.{put-cases, as-many-entries, seat-of-eight-closed}
 use Rattle.sending.proofs.Numbers.{as-many-numbers, numbers-fit}
 use Rattle.seats.proofs.OpeningLaws.{none-coupling}
 use Rattle.demands.proofs.Bench.SeatAfter.{same-setup, as-many-seats, seat-made}
@@ -54,8 +54,9 @@ kept-fresh setup =
 
 -- ---- the report sequence numbers
 
-set-fits : (l : List ℕ) (k v i : ℕ) → v < 65536 → ((i : ℕ) → getD l i 0 < 65536) → getD (set l k v) i 0 < 65536
-set-fits l k v i small fit = set-cases {A = ℕ} 0 (λ n. n < 65536) l k i v (fit i) (λ e. small)
+put-fits : (l : List ℕ) (n v i : ℕ) → v < 65536 → ((i : ℕ) → getD l i 0 < 65536) → getD (withEntry l n v) i 0 < 65536
+put-fits l n v i small fit =
+    put-cases l n (λ q. getD q i 0 < 65536) v (fit i) (set-cases {A = ℕ} 0 (λ k. k < 65536) l (n - 1) i v (fit i) (λ e. small))
 
 wraps : (n : ℕ) → n % 65536 < 65536
 wraps n = omega arith
@@ -78,9 +79,9 @@ module _ (b : Bench) (kept : Kept b) where
   sequences-kept : (c : Call) → InRange c → (length (benchAfter b c .sequences) ≡ 8) × ((i : ℕ) → getD (benchAfter b c .sequences) i 0 < 65536)
   unfolding openedBench closedBench heardBench tickedBench sentBench reportedBench
   sequences-kept (opening n r) fits =
-      (length-set (b .sequences) (n - 1) _ ∙ kept .eight-sequences, λ i. set-fits (b .sequences) (n - 1) (r .sequence) i (fits .1) (kept .sequences-fit))
+      (as-many-entries (b .sequences) n _ ∙ kept .eight-sequences, λ i. put-fits (b .sequences) n (r .sequence) i (fits .1) (kept .sequences-fit))
   sequences-kept (report n timestamp sound room) fits =
-      (length-set (b .sequences) (n - 1) _ ∙ kept .eight-sequences, λ i. set-fits (b .sequences) (n - 1) _ i (wraps _) (kept .sequences-fit))
+      (as-many-entries (b .sequences) n _ ∙ kept .eight-sequences, λ i. put-fits (b .sequences) n _ i (wraps _) (kept .sequences-fit))
   sequences-kept (closing n) fits = (kept .eight-sequences, kept .sequences-fit)
   sequences-kept (packet n p) fits = (kept .eight-sequences, kept .sequences-fit)
   sequences-kept (tick ms timestamp room) fits =

@@ -1,10 +1,10 @@
 -- What one call does to one seat, and what a run of calls made of it.
-use Prim.Native.Nat.{ℕ, _-_}
+use Prim.Native.Nat.{ℕ}
 use mathlib.Core.Path.{_≡_, refl, ap, sym, _∙_}
 use mathlib.Core.Bool.{Bool, true, false, cond}
 use mathlib.Core.List.{List, [], _∷_}
 use lib.Dec.{eqb}
-use lib.ListN.{length, length-set, length-map}
+use lib.ListN.{length, length-map}
 use borrow.Author.Tests.{eqb-true}
 use Rattle.packet.specs.Refusals.{NoCase, Answer, accepted, refused}
 use Rattle.record.specs.Record.{closedSeat, openedSeat, seatOf}
@@ -23,7 +23,7 @@ use Rattle.demands.proofs.Demand1.Calls.{saidBy, benchAfter, call-answe
 use Rattle.bench.proofs.Keeping.{refused-keeps}
 use Rattle.seats.proofs.Accepted.{open-accepted, seat-accepted}
 use Rattle.hearing.proofs.Accepted.{packet-accepted}
-use Rattle.record.proofs.Seats.{seat-put, seat-changed}
+use Rattle.record.proofs.Seats.{as-many-entries, seat-put, seat-changed}
 
 -- ---- the set-up, and how many seats
 
@@ -44,9 +44,9 @@ setup-kept b c = after-call (λ (x : Bench). x .setup ≡ b .setup) b c refl (λ
 
 pub as-many-seats : (b : Bench) (c : Call) → length (benchAfter b c .seats) ≡ length (b .seats)
 unfolding openedBench closedBench heardBench tickedBench sentBench reportedBench
-as-many-seats b (opening n r) = length-set (b .seats) (n - 1) _
-as-many-seats b (closing n) = length-set (b .seats) (n - 1) _
-as-many-seats b (packet n p) = length-set (b .seats) (n - 1) _
+as-many-seats b (opening n r) = as-many-entries (b .seats) n _
+as-many-seats b (closing n) = as-many-entries (b .seats) n _
+as-many-seats b (packet n p) = as-many-entries (b .seats) n _
 as-many-seats b (tick ms timestamp room) = length-map (b .seats) (tickedSeat ms)
 as-many-seats b (report n timestamp sound room) = refl
 as-many-seats b (received signals level) = refl

@@ -1,7 +1,7 @@
 -- Ticks add up: from the laws of one seat and of the numbers to what a tick tells and leaves, and to runs of ticks.
 use Prim.Native.Nat.{ℕ, suc, _+_, _-_, _≤_, _<_}
 use mathlib.Core.Path.{_≡_, refl, sym, ap, ap₂, subst, _∙_}
-use mathlib.Core.Bool.{Bool, true, false, cond, not, _&&_}
+use mathlib.Core.Bool.{Bool, false, cond}
 use mathlib.Core.List.{List, [], _∷_, map}
 use mathlib.Core.Logic.{_↔_}
 use native.Mathlib.Omega.{arith}
@@ -10,11 +10,11 @@ use lib.ListN.{length, getD, replicate, length-map}
 use lib.Seq.{ext-getD}
 use borrow.Author.Tests.{le-ltb}
 use Rattle.base.proofs.Places.{all-alike, map-place}
-use Rattle.base.proofs.Truths.{and-none}
+use Rattle.base.proofs.Truths.{either-way}
 use Rattle.packet.specs.Refusals.{Answer, accepted, judged}
 use Rattle.packet.proofs.Judged.{accepts}
 use Rattle.record.specs.Record.{noSuchSeat, closedSeat, seatOf, withSeats, withSequences, withAir}
-use Rattle.record.proofs.Seats.{seat-at, seat-changed}
+use Rattle.record.proofs.Seats.{entry-changed, seat-at, seat-changed}
 use Rattle.writer.specs.Writing.{filled}
 use Rattle.air.specs.Air.{keyings, benchAir, aired}
 use Rattle.air.proofs.Kept.{air-unread}
@@ -46,11 +46,7 @@ module _ (b : Bench) (t : Tick) (fine : NotRefused t) where
 -- what is told of a seat
 flag : (f : Seat → Bool) → f closedSeat ≡ false → (seats : List Seat) (n : ℕ) → isIn (map f seats) n ≡ f (seatOf seats n)
 unfolding isIn seatOf
-flag f shut seats n = by-number (noSuchSeat n)
-  where
-    by-number : (none : Bool) → not none && getD (map f seats) (n - 1) false ≡ f (cond none closedSeat (getD seats (n - 1) closedSeat))
-    by-number true = sym shut
-    by-number false = map-place f closedSeat shut seats (n - 1)
+flag f shut seats n = entry-changed f closedSeat shut seats n
 
 closed-flag : (b : Bench) (ms n : ℕ) → isIn (silentSeats b ms) n ≡ fallsSilent ms (seatOf (b .seats) n)
 unfolding fallsSilent
@@ -133,7 +129,7 @@ same-time b x y xs ys h k e = run-of-ticks b x xs h ∙ ap (λ (ms : ℕ). butNu
 -- nobody is in the set of nobody
 none-in : (n : ℕ) → isIn (replicate 8 false) n ≡ false
 unfolding isIn
-none-in n = ap (λ (t : Bool). not (noSuchSeat n) && t) (all-alike false 8 (n - 1)) ∙ and-none (not (noSuchSeat n))
+none-in n = ap (cond (noSuchSeat n) false) (all-alike false 8 (n - 1)) ∙ either-way (noSuchSeat n) false
 
 -- where each seat is in time nobody is told, no number moves and nothing is sent
 module _ (b : Bench) (eight : length (b .seats) ≡ 8) (in-time : (n : ℕ) → InTime (seatOf (b .seats) n)) where

@@ -1,16 +1,17 @@
 -- What the writers write, the readers read, and the other way round: by the promises, RoundTrip and Rewrite.
-use Prim.Native.Nat.{ℕ, _-_}
+use Prim.Native.Nat.{ℕ}
 use mathlib.Core.Path.{_≡_, ap, ap₂, sym, _∙_}
 use mathlib.Core.Bool.{Bool, true, false, not}
 use mathlib.Core.List.{List, []}
 use denote.Ref.{now}
-use lib.ListN.{length, take, drop, getD}
+use lib.ListN.{length, take, drop}
 use lib.Seq.{take-at}
 use Rattle.packet.specs.Packet.{payload}
 use Rattle.packet.specs.Refusals.{Answer, accepted}
 use Rattle.reader.specs.Reading.{readTx, readRx, txAnswer, rxAnswer}
 use Rattle.writer.specs.Writing.{fromTx, fromRx, encode, writable, write, filled, buffered, writtenAnswer}
-use Rattle.record.specs.Record.{noSuchSeat}
+use Rattle.record.specs.Record.{noSuchSeat, entryOf}
+use Rattle.record.proofs.Seats.{flag-is-seat}
 use Rattle.seats.specs.Ticking.{silentSeats, dueSeats, tickedBench}
 use Rattle.reporting.specs.Reporting.{squTold, reportOf, reportRefusals, reportSaid, reportBytes, reportBuffer}
 use Rattle.sending.specs.Sending.{tickRefusals, afterClosings, recordFor, records, sentBytes, tickSaid, namedIn, tickSets, tickBuffer}
@@ -95,14 +96,14 @@ module _ (b : Bench) (ms timestamp : ℕ) (out left : List ℕ) (sets : SeatSets
       ap (take used) l ∙ ap (λ (a : Answer ℕ). take used (filled a bytes out)) said
       ∙ take-at bytes (drop used out) used (meets-none (tickRefusals ms (length out)) (length bytes) used said .1)
 
-  report-sent : (n : ℕ) → noSuchSeat n ≡ false → getD (sets .due) (n - 1) false ≡ true
-      → getD (readBack (sets .due) (take used left)) (n - 1) [] ≡ reportBytes (afterClosings b ms) n timestamp []
+  report-sent : (n : ℕ) → entryOf false (sets .due) n ≡ true
+      → entryOf [] (readBack (sets .due) (take used left)) n ≡ reportBytes (afterClosings b ms) n timestamp []
   unfolding sentBytes records
-  report-sent n real is-due =
-      ap (λ (rs : List (List ℕ)). getD rs (n - 1) [])
+  report-sent n is-due =
+      ap (λ (rs : List (List ℕ)). entryOf [] rs n)
       (ap₂ readBack due-named tick-front ∙ frames-back (afterClosings b ms) timestamp 1 (dueSeats b ms))
-      ∙ seat-record (afterClosings b ms) timestamp (dueSeats b ms) n real
-      ∙ ap (recordFor (afterClosings b ms) timestamp n) (ap (λ (due : List Bool). getD due (n - 1) false) (sym due-named) ∙ is-due)
+      ∙ seat-record (afterClosings b ms) timestamp (dueSeats b ms) n (flag-is-seat (sets .due) n is-due)
+      ∙ ap (recordFor (afterClosings b ms) timestamp n) (ap (λ (due : List Bool). entryOf false due n) (sym due-named) ∙ is-due)
 
 -- a tick makes the air right, so that its reports can be read
 sent-back : (b : Bench) (ms n timestamp : ℕ) → noSuchSeat n ≡ false
@@ -128,9 +129,9 @@ both-ways = record {
       let there = report-front (a .0) (a .1 .0) (a .1 .1 .0) (now (a .1 .1 .1 .0)) (now (a .1 .1 .1 .1 .0)) (now (e .1 .1 .1 .1 .0)) (r .answer) long (h .0) (h .1 .0) is in
       let back = reports-read-back (a .0) right (a .1 .0) (a .1 .1 .0) (now (a .1 .1 .1 .0)) (length (now (a .1 .1 .1 .1 .0))) long (narrow-report k a owned) (there .0) in
       (reads-rx _ _ _ (ap (readRx (a .0 .setup .ext)) (there .1) ∙ back .0), hands-out _ _ (ap payload (there .1) ∙ back .1));
-  written-tick = λ k a r e owned h used n is real is-due.
-      let there = report-sent (a .0) (a .1 .0) (a .1 .1 .0) (now (a .1 .1 .1 .0)) (now (e .1 .1 .1 .0)) (r .seats) (r .answer) used (h .0) (h .1 .0) (h .1 .1 .0) is n real is-due in
-      let back = sent-back (a .0) (a .1 .0) n (a .1 .1 .0) real (narrow-tick k a owned n) in
+  written-tick = λ k a r e owned h used n is is-due.
+      let there = report-sent (a .0) (a .1 .0) (a .1 .1 .0) (now (a .1 .1 .1 .0)) (now (e .1 .1 .1 .0)) (r .seats) (r .answer) used (h .0) (h .1 .0) (h .1 .1 .0) is n is-due in
+      let back = sent-back (a .0) (a .1 .0) n (a .1 .1 .0) (flag-is-seat (r .seats .due) n is-due) (narrow-tick k a owned n) in
       (reads-rx _ _ _ (ap (readRx (a .0 .setup .ext)) there ∙ back .0), hands-out _ _ (ap payload there ∙ back .1));
   read-tx = λ k a r e h m is small plain none buffer room.
       let again = rewrite-tx (a .0) (now (a .1 .0)) m small (sym h ∙ ap txAnswer is) .stands plain none buffer room in

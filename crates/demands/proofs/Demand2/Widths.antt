@@ -12,7 +12,7 @@ use denote.Shadow.{shadow}
 use denote.Array.{each}
 use borrow.Fn.Kinds.{Dens, GoodsP}
 use Rattle.writer.specs.Writing.{fromTx, fromRx}
-use Rattle.record.specs.Record.{noSuchSeat, closedSeat, seatOf}
+use Rattle.record.specs.Record.{noSuchSeat, closedSeat, entryOf, seatOf}
 use Rattle.seats.specs.Ticking.{tickedSeat, tickedBench}
 use Rattle.reporting.specs.Reporting.{reportOf}
 use Rattle.sending.specs.Sending.{afterClosings}
@@ -32,14 +32,17 @@ each-holds into own P tells (v ∷ vs) [] g other p i = absurd g
 each-holds into own P tells (v ∷ vs) (u ∷ us) g other p zero = tells v u (g .0)
 each-holds into own P tells (v ∷ vs) (u ∷ us) g other p (suc i) = each-holds into own P tells vs us (g .1) other p i
 
--- of the seat of a number
+-- of what it holds for a seat, and of the seat of a number
+entry-holds : {A : Type 0} (P : A → Type 0) (none : A) (entries : List A) (n : ℕ) → P none → ((i : ℕ) → P (getD entries i none)) → P (entryOf none entries n)
+entry-holds P none entries n nothing each = by-number (noSuchSeat n)
+  where
+    by-number : (past : Bool) → P (cond past none (getD entries (n - 1) none))
+    by-number true = nothing
+    by-number false = each (n - 1)
+
 seat-holds : (P : Seat → Type 0) (seats : List Seat) (n : ℕ) → P closedSeat → ((i : ℕ) → P (getD seats i closedSeat)) → P (seatOf seats n)
 unfolding seatOf
-seat-holds P seats n closed each = by-number (noSuchSeat n)
-  where
-    by-number : (none : Bool) → P (cond none closedSeat (getD seats (n - 1) closedSeat))
-    by-number true = closed
-    by-number false = each (n - 1)
+seat-holds P seats n closed each = entry-holds P closedSeat seats n closed each
 
 abbrev SsrcFits : Seat → Type 0
 SsrcFits s = s .ssrc < 2 ^ 32
@@ -64,7 +67,7 @@ narrow-report k a g =
     let b = g .0 .1 .1 in
     record {
       extension = b .0 .1 .1 .1 .0 .1;
-      sequence = each-holds _ _ (λ q. q < 2 ^ 16) (λ q u h. h .1) (a .0 .sequences) _ (b .1 .1 .0 .1 .1) 0 (omega arith) _;
+      sequence = entry-holds (λ q. q < 2 ^ 16) 0 (a .0 .sequences) (a .1 .0) (omega arith) (each-holds _ _ (λ q. q < 2 ^ 16) (λ q u h. h .1) (a .0 .sequences) _ (b .1 .1 .0 .1 .1) 0 (omega arith));
       timestamp = g .1 .1 .0 .1;
       ssrc = seat-holds SsrcFits (a .0 .seats) (a .1 .0) none-fits (each-holds _ _ SsrcFits (λ s u h. h .1 .1 .1 .1 .1 .1 .1 .1 .0 .1) (a .0 .seats) _ (b .1 .0 .1 .1) closedSeat none-fits);
     }
@@ -82,7 +85,7 @@ narrow-tick k a g n =
     let b = g .0 .1 .1 in
     record {
       extension = b .0 .1 .1 .1 .0 .1;
-      sequence = each-holds _ _ (λ q. q < 2 ^ 16) (λ q u h. h .1) (a .0 .sequences) _ (b .1 .1 .0 .1 .1) 0 (omega arith) _;
+      sequence = entry-holds (λ q. q < 2 ^ 16) 0 (a .0 .sequences) n (omega arith) (each-holds _ _ (λ q. q < 2 ^ 16) (λ q u h. h .1) (a .0 .sequences) _ (b .1 .1 .0 .1 .1) 0 (omega arith));
       timestamp = g .1 .1 .0 .1;
       ssrc =
           seat-holds SsrcFits (map (tickedSeat (a .1 .0)) (a .0 .seats)) n none-fits

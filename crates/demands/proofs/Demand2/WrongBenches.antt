@@ -1,10 +1,9 @@
 -- The five wrong benches: where each breaks a promise, and that demand 3 alone would let it pass.
-use Prim.Native.Nat.{ℕ, _-_}
+use Prim.Native.Nat.{ℕ}
 use mathlib.Core.Path.{_≡_, refl, sym, ap, ap₂, _∙_}
 use mathlib.Core.Bool.{Bool, true, false, cond, false≢true}
 use mathlib.Core.List.{List, [], _∷_, map}
 use native.Mathlib.Omega.{arith}
-use Rattle.base.proofs.Places.{map-place}
 use Rattle.base.proofs.Truths.{and-none}
 use Rattle.packet.specs.Refusals.{Answer, accepted, refused, mapped}
 use Rattle.base.specs.Lists.{howMany}
@@ -16,6 +15,7 @@ use Rattle.reader.specs.Reading.{readerRefusals, itemsHere, messageOf}
 use Rattle.writer.specs.Writing.{risingItems, itemBytes, wordsOf, headOf, encode}
 use Rattle.record.specs.Kind.{kindOf}
 use Rattle.record.specs.Record.{seatNumbers, entryOf, openedSeat, freshBench, seatOf, lesson}
+use Rattle.record.proofs.Seats.{entry-changed}
 use Rattle.seats.specs.Opening.{anyCoupling, openRefusals, openSaid, openedBench, seatRefusals}
 use Rattle.air.specs.Air.{takesPart, keyingsOf, keyings, topRank, atRank, leaders, added, onAir, among, smallest, anySends, airOf, benchAir}
 use Rattle.air.specs.Order.{begins, toLast, orderAfter}
@@ -182,9 +182,9 @@ bytes-seen : (setup : Setup) (up : Bool) (bytes : List ℕ) (due : List Bool)
 unfolding recordsSeen
 bytes-seen setup up bytes due = live-alike setup (λ hidden r. cond hidden [] r) (λ x y. refl) _ _
     (λ n real live. ap (asSeen up)
-    (map-place (λ d. cond d bytes []) false refl due (n - 1)
+    (entry-changed (λ d. cond d bytes []) false refl due n
     ∙ ap (λ (d : Bool). cond d bytes []) (sym (flag-compared setup n real live due))
-    ∙ sym (map-place (λ d. cond d bytes []) false refl (amongLive setup due) (n - 1))))
+    ∙ sym (entry-changed (λ d. cond d bytes []) false refl (amongLive setup due) n)))
 
 bytes-retelling : (bytes : List ℕ) → Retelling (withBytes bytes)
 unfolding fixed audioSent

@@ -14,14 +14,14 @@ use Rattle.record.specs.declared.setup.Setup.{Setup}
 use Rattle.record.specs.declared.seat.Seat.{Seat}
 use Rattle.record.specs.declared.whole.Bench.{Bench}
 use Rattle.demands.specs.Apart.{pttOf, liveAboveTest}
-use Rattle.record.proofs.Seats.{lesson-flag, open-is-seat, seat-of-place}
+use Rattle.record.proofs.Seats.{flag-is-seat, lesson-flag, open-is-seat, seat-of-place}
 use Rattle.demands.proofs.Demand3.WithoutLessons.{low, live-seat}
 use Rattle.demands.proofs.Demand3.LiveAir.{liveKeyings, keyings-low, TestAtMost, Up, air-same}
 use Rattle.demands.proofs.Demand3.LessonSeats.{Held}
 
 lesson-real : (setup : Setup) (n : ℕ) → lesson setup n ≡ true → noSuchSeat n ≡ false
 unfolding lesson
-lesson-real setup n hidden = not-true (noSuchSeat n) (and-left (not (noSuchSeat n)) (getD (setup .lesson) (n - 1) false) hidden)
+lesson-real setup n hidden = flag-is-seat (setup .lesson) n hidden
 
 part-real : (healthy : Bool) (seats : List Seat) (n : ℕ) → takesPart healthy (seatOf seats n) ≡ true → noSuchSeat n ≡ false
 unfolding takesPart

@@ -30,15 +30,15 @@ module _ (b : Bench) (n : ℕ) (hidden : lesson (b .setup) n ≡ true) (real : n
 
   opened-unseen : (r : Request) → low (openedBench b n r) ≡ low b
   unfolding low openedBench
-  opened-unseen r = simp (set-hidden, flag)
+  opened-unseen r = simp (real, set-hidden, flag)
 
   closed-unseen : low (closedBench b n) ≡ low b
   unfolding low closedBench
-  closed-unseen = simp (set-hidden, flag)
+  closed-unseen = simp (real, set-hidden, flag)
 
   reported-unseen : low (reportedBench b n) ≡ low b
   unfolding low reportedBench
-  reported-unseen = simp (set-hidden, flag)
+  reported-unseen = simp (real, set-hidden, flag)
 
   heard-unseen : (p : List ℕ) → PacketAccepted (b .setup) n (seatOf (b .seats) n) p → low (heardBench b n (messageIn p)) ≡ low b
   unfolding low heardBench
@@ -46,7 +46,7 @@ module _ (b : Bench) (n : ℕ) (hidden : lesson (b .setup) n ≡ true) (real : n
       let kind = kindOf (b .setup .kind) in
       let no-item = no-item-lesson (lesson (b .setup) n) kind (messageIn p) (h .may-ask-side) hidden in
       let unmoved = side-stays kind (seatOf (b .seats) n .heard .field) (fieldHeard (messageIn p)) (b .standby) (unfold fieldHeard in no-item) in
-      simp (set-hidden, flag, order-hidden (b .setup) n, hidden, unmoved)
+      simp (real, set-hidden, flag, order-hidden (b .setup) n, hidden, unmoved)
 
 pub unseen : (b : Bench) (c : Call) → lesson (b .setup) (named c) ≡ true → low (keeping b c .bench) ≡ low b
 unfolding named low

@@ -6,12 +6,12 @@ use mathlib.Core.Bool.{Bool, true, false, not, _&&_, _||_, true≢false}
 use mathlib.Core.List.{List, map}
 use native.Mathlib.Omega.{arith}
 use lib.Dec.{eqb}
-use lib.ListN.{getD, set, List·getD-map}
+use lib.ListN.{getD, List·getD-map}
 use borrow.Author.Tests.{eqb-true}
 use Rattle.base.proofs.Truths.{or-right}
 use Rattle.packet.specs.Refusals.{NoCase}
 use Rattle.packet.specs.declared.message.Tx.{Tx}
-use Rattle.record.specs.Record.{seatNumbers, noSuchSeat, closedSeat, openedSeat, seatOf, lesson, freshBench, withSeats}
+use Rattle.record.specs.Record.{seatNumbers, noSuchSeat, closedSeat, openedSeat, seatOf, lesson, freshBench, withSeats, withEntry}
 use Rattle.seats.specs.Opening.{isTxRx, isCoupling, holdsCoupling, openedBench, closedBench}
 use Rattle.seats.specs.Ticking.{tickedSeat, tickedBench}
 use Rattle.air.specs.Air.{rank, among, aired}
@@ -30,7 +30,7 @@ use Rattle.hearing.proofs.Accepted.{PacketAccepted, packet-accepted}
 use Rattle.demands.specs.ExactCalls.{refusalsOf}
 use Rattle.demands.proofs.Demand1.Calls.{benchAfter, after-call}
 use Rattle.demands.proofs.Bench.Order.{among-after}
-use Rattle.record.proofs.Seats.{each-seat, lesson-flag, seat-of-place}
+use Rattle.record.proofs.Seats.{put-cases, each-seat, lesson-flag, seat-of-place}
 
 abbrev pub Meek : Seat → Type 0
 Meek s = (rank (s .heard .field .ptt) ≤ 1) × (holdsCoupling s ≡ false)
@@ -57,9 +57,11 @@ test-at-most m call h =
 meek-closed : Meek closedSeat
 meek-closed = (omega arith, refl)
 
-meek-put : (flags : List Bool) (seats : List Seat) (k : ℕ) (s : Seat) → ((j : ℕ) → getD flags j false ≡ true → Meek (getD seats j closedSeat))
-    → (getD flags k false ≡ true → Meek s) → (j : ℕ) → getD flags j false ≡ true → Meek (getD (set seats k s) j closedSeat)
-meek-put flags seats k s old new j e = set-cases closedSeat Meek seats k j s (old j e) (λ q. new (ap (λ (i : ℕ). getD flags i false) (sym q) ∙ e))
+meek-put : (flags : List Bool) (seats : List Seat) (n : ℕ) (s : Seat) → ((j : ℕ) → getD flags j false ≡ true → Meek (getD seats j closedSeat))
+    → (getD flags (n - 1) false ≡ true → Meek s) → (j : ℕ) → getD flags j false ≡ true → Meek (getD (withEntry seats n s) j closedSeat)
+meek-put flags seats n s old new j e =
+    put-cases seats n (λ l. Meek (getD l j closedSeat)) s (old j e)
+    (set-cases closedSeat Meek seats (n - 1) j s (old j e) (λ q. new (ap (λ (i : ℕ). getD flags i false) (sym q) ∙ e)))
 
 meek-ticked : (ms : ℕ) (s : Seat) → Meek s → Meek (tickedSeat ms s)
 meek-ticked ms s h = ticked-cases Meek ms s meek-closed (λ e younger. h) h
@@ -74,7 +76,7 @@ held-opened : (b : Bench) (n : ℕ) (r : Request) → OpenAccepted (b .setup) n 
 unfolding openedBench openedSeat
 held-opened b n r h i =
     record {
-      meek = meek-put (b .setup .lesson) (b .seats) (n - 1) _ (i .meek) (λ e. (omega arith, h .lesson-not-coupling (sym (lesson-flag (b .setup) n (h .is-seat)) ∙ e)));
+      meek = meek-put (b .setup .lesson) (b .seats) n _ (i .meek) (λ e. (omega arith, h .lesson-not-coupling (sym (lesson-flag (b .setup) n (h .is-seat)) ∙ e)));
       placed = i .placed;
     }
 
@@ -82,7 +84,7 @@ pub held-heard : (b : Bench) (n : ℕ) (p : List ℕ) → PacketAccepted (b .set
 unfolding heardBench heardSeat fieldHeard
 held-heard b n p h i =
     record {
-      meek = meek-put (b .setup .lesson) (b .seats) (n - 1) _ (i .meek) (λ e. (calm (sym (lesson-flag (b .setup) n (h .is-seat)) ∙ e), uncoupled e));
+      meek = meek-put (b .setup .lesson) (b .seats) n _ (i .meek) (λ e. (calm (sym (lesson-flag (b .setup) n (h .is-seat)) ∙ e), uncoupled e));
       placed = λ j real. among-after n j _ _ (b .order) ∙ i .placed j real;
     }
   where
@@ -106,7 +108,7 @@ held-aired b i = record { meek = i .meek; placed = i .placed }
 held-made : (b : Bench) (c : Call) → Held b → NoCase (refusalsOf b c) → Held (benchAfter b c)
 held-made b (opening n r) i none = held-aired _ (held-opened b n r (open-accepted (b .setup) n (b .seats) r none) i)
 held-made b (closing n) i none =
-    unfold closedBench in held-aired _ (held-seats b _ i (meek-put (b .setup .lesson) (b .seats) (n - 1) closedSeat (i .meek) (λ e. meek-closed)))
+    unfold closedBench in held-aired _ (held-seats b _ i (meek-put (b .setup .lesson) (b .seats) n closedSeat (i .meek) (λ e. meek-closed)))
 held-made b (packet n p) i none = held-aired _ (held-heard b n p (packet-accepted (b .setup) n (seatOf (b .seats) n) p none) i)
 held-made b (tick ms timestamp room) i none = let h = held-ticked b ms i in unfold sentBench in record { meek = h .meek; placed = h .placed }
 held-made b (report n timestamp sound room) i none = unfold reportedBench in record { meek = i .meek; placed = i .placed }

@@ -68,7 +68,7 @@ match-opening b n r i live =
     opened-low : noSuchSeat n ≡ false → openedBench (low b) n r ≡ low (aired (openedBench b n r))
     opened-low real =
         unfold openedBench low in
-        simp (set-elsewhere closedSeat, set-elsewhere {A = ℕ} 0, lesson-flag (b .setup) n real, live)
+        simp (real, set-elsewhere closedSeat, set-elsewhere {A = ℕ} 0, lesson-flag (b .setup) n real, live)
 
 pub match-closing : (b : Bench) (n : ℕ) → lesson (b .setup) n ≡ false → Match (b .setup) (closing n) (keeping b (closing n)) (step (low b) (closing n))
 unfolding does closeSaid seatVerdict
@@ -79,7 +79,7 @@ match-closing b n live =
     (λ h. match-plain (b .setup) (closing n) (aired (closedBench b n)) _ done (closed-low (unfold seatRefusals in h .0)))
   where
     closed-low : noSuchSeat n ≡ false → closedBench (low b) n ≡ low (aired (closedBench b n))
-    closed-low real = unfold closedBench low in simp (set-elsewhere closedSeat, lesson-flag (b .setup) n real, live)
+    closed-low real = unfold closedBench low in simp (real, set-elsewhere closedSeat, lesson-flag (b .setup) n real, live)
 
 -- ---- totals, which are each seat's own
 

@@ -1,17 +1,17 @@
 -- A report to a live seat, from a bench whose air is right and from that bench without its lesson seats, whose air is worked out.
-use Prim.Native.Nat.{ℕ, _-_, _≤_}
+use Prim.Native.Nat.{ℕ, _≤_}
 use mathlib.Core.Path.{_≡_, refl, sym, ap, ap₂, _∙_}
 use mathlib.Core.Bool.{Bool, true, false}
 use mathlib.Core.List.{List}
 use native.Mathlib.Omega.{arith}
-use lib.ListN.{length, getD}
+use lib.ListN.{length}
 use Rattle.packet.specs.Refusals.{NoCase, accepted}
 use Rattle.writer.specs.Writing.{fromRx, encode}
 use Rattle.packet.specs.declared.message.ClimaxItem.the-variants as climax
 use Rattle.packet.specs.declared.message.Message.{Message}
 use Rattle.packet.specs.declared.message.Rx.{Rx}
 use Rattle.record.specs.Kind.{kindOf, sideTold}
-use Rattle.record.specs.Record.{seatNumbers, noSuchSeat, seatOf, lesson}
+use Rattle.record.specs.Record.{seatNumbers, noSuchSeat, entryOf, seatOf, lesson}
 use Rattle.air.specs.Air.{benchAir, aired}
 use Rattle.air.proofs.Kept.{air-unread}
 use Rattle.reporting.specs.Reporting.{squTold, sctTold, sqiTold, reportOf, reportBytes, reportRefusals, reportSaid, reportedBench}
@@ -59,7 +59,7 @@ calmReport b timestamp sequence s =
       items = record { sqi = sqiTold (b .signals) (b .level); climax = climax.Absent; side = sideTold (kindOf (b .setup .kind)) (b .standby) };
     }
 
-calm-report : (b : Bench) (n timestamp : ℕ) → calm (fromRx (reportOf b n timestamp)) ≡ calmReport b timestamp (getD (b .sequences) (n - 1) 0) (seatOf (b .seats) n)
+calm-report : (b : Bench) (n timestamp : ℕ) → calm (fromRx (reportOf b n timestamp)) ≡ calmReport b timestamp (entryOf 0 (b .sequences) n) (seatOf (b .seats) n)
 unfolding calm reportOf calmReport
 calm-report b n timestamp = refl
 
@@ -71,12 +71,12 @@ module _ (b : Bench) (right : AirRight b) (n timestamp : ℕ) (live : lesson (b 
   -- from the same air, the same report
   report-low : benchAir (low b) ≡ benchAir b → reportOf (alone b) n timestamp ≡ reportOf b n timestamp
   unfolding reportOf
-  report-low e = simp (e, right, sequence-low b n live real, seat-low b n live) (unfold low in refl)
+  report-low e = simp (e, right, sequence-low b n live, seat-low b n live) (unfold low in refl)
 
   -- from any air, the same but for the three
   report-calm : calm (fromRx (reportOf (alone b) n timestamp)) ≡ calm (fromRx (reportOf b n timestamp))
   unfolding low calmReport
-  report-calm = calm-report (alone b) n timestamp ∙ ap₂ (calmReport b timestamp) (sequence-low b n live real) (seat-low b n live) ∙ sym (calm-report b n timestamp)
+  report-calm = calm-report (alone b) n timestamp ∙ ap₂ (calmReport b timestamp) (sequence-low b n live) (seat-low b n live) ∙ sym (calm-report b n timestamp)
 
   module _ (sound : List ℕ) where
     -- "the same bytes"
@@ -116,7 +116,7 @@ module _ (b : Bench) (right : AirRight b) (n timestamp : ℕ) (sound : List ℕ)
 
   reported-low : noSuchSeat n ≡ false → reportedBench (low b) n ≡ low (reportedBench b n)
   unfolding reportedBench
-  reported-low real = simp (sequence-low b n live real) (unfold low in simp (set-elsewhere {A = ℕ} 0, lesson-flag (b .setup) n real, live))
+  reported-low real = simp (sequence-low b n live) (unfold low in simp (real, set-elsewhere {A = ℕ} 0, lesson-flag (b .setup) n real, live))
 
   real-seat : NoCase (reportRefusals b n timestamp sound room) → noSuchSeat n ≡ false
   real-seat h = report-accepted b n timestamp sound room h .is-seat

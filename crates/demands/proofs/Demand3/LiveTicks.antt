@@ -1,11 +1,9 @@
 -- A tick, with the reports that it sends, on a bench and on that bench without its lesson seats.
-use Prim.Native.Nat.{ℕ, _-_}
+use Prim.Native.Nat.{ℕ}
 use mathlib.Core.Path.{_≡_, refl, sym, ap, ap₂, _∙_}
 use mathlib.Core.Bool.{Bool, true, false, cond, not, _&&_}
 use mathlib.Core.List.{List, [], _∷_, map}
-use lib.ListN.{getD}
-use Rattle.base.proofs.Places.{map-place}
-use Rattle.record.specs.Record.{seatNumbers, noSuchSeat, closedSeat, lesson}
+use Rattle.record.specs.Record.{seatNumbers, noSuchSeat, closedSeat, entryOf, seatOf, lesson}
 use Rattle.air.specs.Air.{aired}
 use Rattle.seats.specs.Ticking.{fallsSilent, isDue, tickedSeat, silentSeats, dueSeats, tickedBench}
 use Rattle.reporting.specs.Reporting.{nextSequence}
@@ -15,11 +13,11 @@ use Rattle.record.specs.declared.setup.Setup.{Setup}
 use Rattle.record.specs.declared.seat.Seat.{Seat}
 use Rattle.record.specs.declared.whole.Bench.{Bench}
 use Rattle.air.proofs.Kept.{air-unread}
-use Rattle.record.proofs.Seats.{at-seat, seats-alike, lesson-flag}
+use Rattle.record.proofs.Seats.{entry-changed, at-seat, seats-alike}
 use Rattle.sending.proofs.BySeat.{seat-record}
 use Rattle.demands.specs.Apart.{liveAboveTest, asSeen, amongLive, recordsSeen, fixed}
-use Rattle.demands.proofs.Demand3.Blanking.{blank, map-blank, blank-elsewhere}
-use Rattle.demands.proofs.Demand3.WithoutLessons.{low, liveSeats}
+use Rattle.demands.proofs.Demand3.Blanking.{blank, map-blank}
+use Rattle.demands.proofs.Demand3.WithoutLessons.{low, liveSeats, live-seat}
 use Rattle.demands.proofs.Demand3.LessonSeats.{Held, held-ticked, held-aired}
 use Rattle.demands.proofs.Demand3.LiveCalls.{Match, match-judged}
 use Rattle.demands.proofs.Demand3.LiveReports.{alone, told-low}
@@ -27,13 +25,13 @@ use Rattle.demands.proofs.Demand3.LiveReports.{alone, told-low}
 -- ---- what is compared, of one live seat and of all
 
 module _ (setup : Setup) (n : ℕ) (real : noSuchSeat n ≡ false) (live : lesson setup n ≡ false) where
-  pub flag-compared : (flags : List Bool) → getD (amongLive setup flags) (n - 1) false ≡ getD flags (n - 1) false
+  pub flag-compared : (flags : List Bool) → entryOf false (amongLive setup flags) n ≡ entryOf false flags n
   unfolding amongLive
-  flag-compared flags = at-seat (λ k. not (lesson setup k) && getD flags (k - 1) false) false n real ∙ rw live
+  flag-compared flags = at-seat (λ k. not (lesson setup k) && entryOf false flags k) false n real ∙ rw live
 
-  pub record-compared : (while : Bool) (records : List (List ℕ)) → getD (recordsSeen setup while records) (n - 1) [] ≡ asSeen while (getD records (n - 1) [])
+  pub record-compared : (while : Bool) (records : List (List ℕ)) → entryOf [] (recordsSeen setup while records) n ≡ asSeen while (entryOf [] records n)
   unfolding recordsSeen
-  record-compared while records = at-seat (λ k. cond (lesson setup k) [] (asSeen while (getD records (k - 1) []))) [] n real ∙ rw live
+  record-compared while records = at-seat (λ k. cond (lesson setup k) [] (asSeen while (entryOf [] records k))) [] n real ∙ rw live
 
 -- lists that tell nothing of lesson seats are alike where live seats are told alike
 pub live-alike : {A : Type 0} (setup : Setup) (tells : (hidden : Bool) → A → A) → ((x y : A) → tells true x ≡ tells true y) → (f g : ℕ → A)
@@ -48,11 +46,10 @@ live-alike setup tells nothing f g alike = seats-alike _ _ (λ n real. by-seat n
 -- ---- flags of seats
 
 module _ (setup : Setup) (seats : List Seat) (f : Seat → Bool) (shut : f closedSeat ≡ false) where
-  flag-live : (n : ℕ) → noSuchSeat n ≡ false → lesson setup n ≡ false → getD (map f (liveSeats setup seats)) (n - 1) false ≡ getD (map f seats) (n - 1) false
+  flag-live : (n : ℕ) → noSuchSeat n ≡ false → lesson setup n ≡ false → entryOf false (map f (liveSeats setup seats)) n ≡ entryOf false (map f seats) n
+  unfolding seatOf
   flag-live n real live =
-      map-place f closedSeat shut (liveSeats setup seats) (n - 1)
-      ∙ ap f (blank-elsewhere closedSeat (setup .lesson) seats (n - 1) (lesson-flag setup n real ∙ live))
-      ∙ sym (map-place f closedSeat shut seats (n - 1))
+      entry-changed f closedSeat shut (liveSeats setup seats) n ∙ ap f (live-seat setup seats n live) ∙ sym (entry-changed f closedSeat shut seats n)
 
   flags-live : amongLive setup (map f (liveSeats setup seats)) ≡ amongLive setup (map f seats)
   unfolding amongLive
@@ -94,14 +91,14 @@ module _ (b : Bench) (ms timestamp room : ℕ) (i : Held b) where
   record-alike n real live false = refl
 
   record-low : (n : ℕ) → noSuchSeat n ≡ false → lesson (b .setup) n ≡ false
-      → asSeen while (getD (records (low b) ms timestamp) (n - 1) []) ≡ asSeen while (getD (records b ms timestamp) (n - 1) [])
+      → asSeen while (entryOf [] (records (low b) ms timestamp) n) ≡ asSeen while (entryOf [] (records b ms timestamp) n)
   unfolding records low isDue
   record-low n real live =
       ap (asSeen while)
       (seat-record (afterClosings (low b) ms) timestamp (dueSeats (low b) ms) n real
       ∙ ap₂ (λ (x : Bench) (due : Bool). recordFor (aired x) timestamp n due) (ticked-low b ms)
       (flag-live (b .setup) (b .seats) (isDue ms) refl n real live))
-      ∙ record-alike n real live (getD (dueSeats b ms) (n - 1) false)
+      ∙ record-alike n real live (entryOf false (dueSeats b ms) n)
       ∙ ap (asSeen while) (sym (seat-record (afterClosings b ms) timestamp (dueSeats b ms) n real))
 
   records-low : recordsSeen (b .setup) while (records (low b) ms timestamp) ≡ recordsSeen (b .setup) while (records b ms timestamp)

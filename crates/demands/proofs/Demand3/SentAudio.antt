@@ -16,7 +16,7 @@ use Rattle.record.specs.declared.shown.Air.{Air}
 use Rattle.demands.specs.Apart.{pttOf}
 use Rattle.demands.proofs.Demand3.Blanking.{set-elsewhere}
 use Rattle.hearing.proofs.Accepted.{PacketAccepted}
-use Rattle.record.proofs.Seats.{lesson-flag, seat-of-place}
+use Rattle.record.proofs.Seats.{put-there, lesson-flag, seat-of-place}
 use Rattle.demands.proofs.Demand3.WithoutLessons.{low, live-seat, order-live}
 use Rattle.demands.proofs.Demand3.LiveAir.{Up}
 use Rattle.demands.proofs.Demand3.LessonSeats.{Held, held-heard}
@@ -35,13 +35,14 @@ pub seat-heard : (b : Bench) (n : ℕ) (p : List ℕ) → PacketAccepted (b .set
 unfolding heardBench
 seat-heard b n p h =
     let new = heardSeat (seatOf (b .seats) n) (messageIn p) in
-    seat-of-place (set (b .seats) (n - 1) new) n (h .is-seat)
-    ∙ put-open (b .seats) (n - 1) new (ap (λ (s : Seat). s .opened) (sym (seat-of-place (b .seats) n (h .is-seat))) ∙ h .was-open)
+    rw (put-there (b .seats) n new (h .is-seat))
+    (seat-of-place (set (b .seats) (n - 1) new) n (h .is-seat)
+    ∙ put-open (b .seats) (n - 1) new (ap (λ (s : Seat). s .opened) (sym (seat-of-place (b .seats) n (h .is-seat))) ∙ h .was-open))
 
 pub heard-low : (b : Bench) (n : ℕ) (m : Tx) → lesson (b .setup) n ≡ false → noSuchSeat n ≡ false → heardBench (low b) n m ≡ low (heardBench b n m)
 unfolding heardBench low
 heard-low b n m live real =
-    simp (live-seat (b .setup) (b .seats) n live, set-elsewhere closedSeat, lesson-flag (b .setup) n real, live, order-live (b .setup) n)
+    simp (real, live-seat (b .setup) (b .seats) n live, set-elsewhere closedSeat, lesson-flag (b .setup) n real, live, order-live (b .setup) n)
 
 -- ---- a live seat's packet
 

@@ -1,12 +1,11 @@
 -- While a live keying above Test is up the bench is, to live seats, one without lesson seats: a corollary of demand 3.
-use Prim.Native.Nat.{ℕ, _-_}
+use Prim.Native.Nat.{ℕ}
 use mathlib.Core.Path.{_≡_, refl, sym, ap, _∙_}
 use mathlib.Core.Bool.{Bool, true, false, cond}
 use mathlib.Core.List.{List, [], _∷_, _++_}
-use lib.ListN.{getD}
 use Rattle.packet.specs.Refusals.{Answer, accepted, refused, mapped}
 use Rattle.air.specs.Air.{benchAir}
-use Rattle.record.specs.Record.{seatNumbers, noSuchSeat, lesson, freshBench, settled}
+use Rattle.record.specs.Record.{seatNumbers, noSuchSeat, entryOf, lesson, freshBench, settled}
 use Rattle.hearing.specs.Hearing.{packetSaid}
 use Rattle.reporting.specs.Reporting.{reportBytes, reportRefusals, reportSaid, reportedBench}
 use Rattle.bench.specs.Step.{Call, packet, tick, report, Said, done, own, heard, ticked, written, totalled, Outcome, told, does, keeping, after}
@@ -87,8 +86,8 @@ unfolding compared fixed recordTo
 record-whole setup c n live o up = rw up (by-answer _ (o .answer))
   where
     by-seat : (records : List (List ℕ)) (t : Bool) → noSuchSeat n ≡ t
-        → cond t [] (getD (recordsSeen setup true records) (n - 1) []) ≡ cond t [] (getD records (n - 1) [])
-    by-seat records true none = refl
+        → entryOf [] (recordsSeen setup true records) n ≡ entryOf [] records n
+    by-seat records true none = rw none
     by-seat records false real = record-compared setup n real live true records
 
     by-answer : (isTest : Bool) (a : Answer Said) → recordTo n (mapped (fixed setup true isTest) a) ≡ recordTo n a

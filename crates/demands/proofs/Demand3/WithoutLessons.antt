@@ -7,14 +7,14 @@ use mathlib.Core.List.{List, [], _∷_, _++_, append-nil}
 use lib.Dec.{eqb}
 use lib.ListN.{getD}
 use borrow.Author.Tests.{eqb-true}
-use Rattle.record.specs.Record.{noSuchSeat, closedSeat, seatOf, lesson, nobody, withSeats, withSequences, withOrder, withAir}
+use Rattle.record.specs.Record.{noSuchSeat, closedSeat, entryOf, seatOf, lesson, nobody, withSeats, withSequences, withOrder, withAir}
 use Rattle.air.specs.Air.{aired}
 use Rattle.air.specs.Order.{toLast, begins, orderAfter}
 use Rattle.record.specs.declared.setup.Setup.{Setup}
 use Rattle.record.specs.declared.seat.Field.{Field}
 use Rattle.record.specs.declared.seat.Seat.{Seat}
 use Rattle.record.specs.declared.whole.Bench.{Bench}
-use Rattle.record.proofs.Seats.{lesson-flag, seat-of-place}
+use Rattle.record.proofs.Seats.{lesson-flag}
 use Rattle.demands.proofs.Demand3.Blanking.{blank, blank-elsewhere}
 
 unfoldable pub liveOrder : Setup → List ℕ → List ℕ
@@ -40,24 +40,25 @@ pub none-is-lesson : (setup : Setup) → lesson setup 0 ≡ false
 unfolding lesson
 none-is-lesson setup = refl
 
-pub live-seat : (setup : Setup) (seats : List Seat) (n : ℕ) → lesson setup n ≡ false → seatOf (liveSeats setup seats) n ≡ seatOf seats n
-live-seat setup seats n live = by-number (noSuchSeat n) refl
+live-entry : {A : Type 0} (d : A) (setup : Setup) (entries : List A) (n : ℕ) → lesson setup n ≡ false
+    → entryOf d (blank d (setup .lesson) entries) n ≡ entryOf d entries n
+live-entry d setup entries n live = by-number (noSuchSeat n) refl
   where
-    by-number : (t : Bool) → noSuchSeat n ≡ t → seatOf (liveSeats setup seats) n ≡ seatOf seats n
-    by-number true none = unfold seatOf in rw none
-    by-number false real =
-        seat-of-place (liveSeats setup seats) n real
-        ∙ blank-elsewhere closedSeat (setup .lesson) seats (n - 1) (lesson-flag setup n real ∙ live)
-        ∙ sym (seat-of-place seats n real)
+    by-number : (t : Bool) → noSuchSeat n ≡ t → cond t d (getD (blank d (setup .lesson) entries) (n - 1) d) ≡ cond t d (getD entries (n - 1) d)
+    by-number true none = refl
+    by-number false real = blank-elsewhere d (setup .lesson) entries (n - 1) (lesson-flag setup n real ∙ live)
+
+pub live-seat : (setup : Setup) (seats : List Seat) (n : ℕ) → lesson setup n ≡ false → seatOf (liveSeats setup seats) n ≡ seatOf seats n
+unfolding seatOf
+live-seat setup seats n live = live-entry closedSeat setup seats n live
 
 pub seat-low : (b : Bench) (n : ℕ) → lesson (b .setup) n ≡ false → seatOf (low b .seats) n ≡ seatOf (b .seats) n
 unfolding low
 seat-low b n live = live-seat (b .setup) (b .seats) n live
 
-pub sequence-low : (b : Bench) (n : ℕ) → lesson (b .setup) n ≡ false → noSuchSeat n ≡ false
-    → getD (low b .sequences) (n - 1) 0 ≡ getD (b .sequences) (n - 1) 0
+pub sequence-low : (b : Bench) (n : ℕ) → lesson (b .setup) n ≡ false → entryOf 0 (low b .sequences) n ≡ entryOf 0 (b .sequences) n
 unfolding low
-sequence-low b n live real = blank-elsewhere {A = ℕ} 0 (b .setup .lesson) (b .sequences) (n - 1) (lesson-flag (b .setup) n real ∙ live)
+sequence-low b n live = live-entry {A = ℕ} 0 (b .setup) (b .sequences) n live
 
 -- ---- order
 

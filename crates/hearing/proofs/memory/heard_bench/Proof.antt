@@ -36,6 +36,7 @@ returns c =
       c .before .heard-seat .ensures,
       c .before .before .order-after .ensures,
       c .before .before .before .field-heard .ensures,
+      c .before .before .before .before .before .before .before .before .pre .0,
       c .before .before .before .before .before .before .before .before .pre .1,
     )
 

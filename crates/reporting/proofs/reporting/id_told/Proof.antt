@@ -1,27 +1,37 @@
-use Prim.Native.Nat.{_-_}
-use mathlib.Core.Path.{_≡_}
-use mathlib.Core.Bool.{false}
-use lib.ListN.{getD}
+use Rattle.record.proofs.RecordLaws.{recordCases}
 use borrow.Author.Needs.{needs}
-use Rattle.reporting.proofs.ReportLaws.{past-eight}
 use Rattle.reporting.proofs.reporting.id_told.Statement.{statement}
 use Rattle.reporting.proofs.reporting.id_told.Tie as tie
 
-from-zero-requires : tie.Need-from-zero-requires
-from-zero-requires c κs = search needs
+no-such-seat-requires : tie.Need-no-such-seat-requires
+no-such-seat-requires c κs = search needs
 
 returns : tie.Need-returns
-returns c = let none : false ≡ getD (c .before .before .args .t1 .leads) (c .before .before .args .n - 1) false = search (past-eight, needs) in simp (← none)
+returns c = simp (← c .before .no-such-seat .ensures, c .if1 .taken)
 
-element-copy-out-if2 : tie.Need-element-copy-out-if2
-element-copy-out-if2 c = search needs
+sub-leads : tie.Need-sub-leads
+sub-leads c = search recordCases
+
+cast-leads : tie.Need-cast-leads
+cast-leads c = search needs
+
+element-copy-out-leads : tie.Need-element-copy-out-leads
+element-copy-out-leads c = search recordCases
 
 returns-2 : tie.Need-returns-2
-returns-2 c = let e = c .before .before .before .from-zero .ensures in simp (← e, c .if2 .taken)
+returns-2 c = simp (← c .before .before .before .no-such-seat .ensures, c .before .before .if1 .left, c .if2 .taken)
 
 returns-3 : tie.Need-returns-3
-returns-3 c = let e = c .before .before .before .from-zero .ensures in simp (← e, c .if2 .left)
+returns-3 c = simp (← c .before .before .before .no-such-seat .ensures, c .before .before .if1 .left, c .if2 .left)
 
 pub id-told-spec : {M : Type 1} → statement M
 id-told-spec =
-    tie.close (tie.spec from-zero-requires returns element-copy-out-if2 returns-2 returns-3)
+    tie.close
+    (tie.spec
+    no-such-seat-requires
+    returns
+    sub-leads
+    cast-leads
+    element-copy-out-leads
+    returns-2
+    returns-3)

@@ -27,7 +27,7 @@ element-write-after c = search recordCases
 
 returns : tie.Need-returns
 unfolding reportedBench
-returns c = simp (c .next-sequence .ensures)
+returns c = simp (c .before .before .pre, c .next-sequence .ensures)
 
 pub reported-bench-spec : {M : Type 1} → statement M
 reported-bench-spec =

@@ -17,7 +17,7 @@ element-set-from-next c = search openingCases
 
 returns : tie.Need-returns
 unfolding closedBench
-returns c = search openingCases
+returns c = simp (c .pre)
 
 pub closed-bench-spec : {M : Type 1} → statement M
 closed-bench-spec = tie.close (tie.spec sub-t8 cast-t9 mul-t10 element-set-from-next returns)

@@ -29,7 +29,7 @@ element-write-next c = search openingCases
 
 returns : tie.Need-returns
 unfolding openedBench
-returns c = cc
+returns c = simp (c .before .before .pre, c .opened .ensures, c .before .call-code .ensures)
 
 pub opened-bench-spec : {M : Type 1} → statement M
 opened-bench-spec =
