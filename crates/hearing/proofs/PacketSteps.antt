@@ -1,11 +1,10 @@
 -- The packet's call in steps: 13 and 14, then the reader's 1 to 12, then 19 to 23 of the message.
 use Prim.Native.Nat.{ℕ}
-use mathlib.Core.Path.{_≡_, refl, ap, sym, _∙_}
+use mathlib.Core.Path.{_≡_, ap, sym, _∙_}
 use mathlib.Core.Bool.{Bool, true, false, not}
 use mathlib.Core.List.{List, _++_}
-use lib.ListN.{getD}
 use Rattle.base.specs.Order.{missing}
-use Rattle.packet.specs.Refusals.{Case, NoCase, Answer, accepted, refusal, verdictOf, judged, mapped}
+use Rattle.packet.specs.Refusals.{Case, NoCase, Answer, accepted, refused, refusal, verdictOf, judged, mapped}
 use Rattle.reader.specs.Reading.{readerRefusals, messageOf, asTx, read, readTx, txAnswer}
 use Rattle.packet.specs.declared.message.Direction.the-variants as direction
 use Rattle.packet.specs.declared.message.Tx.{Tx}
@@ -15,7 +14,7 @@ use Rattle.packet.specs.declared.refusal.Verdict.the-variants.{Fine, Refused}
 use Rattle.reader.specs.declared.reading.TxRead.{TxRead}
 use Rattle.reader.specs.declared.reading.TxRead.the-variants as tx
 use Rattle.packet.proofs.Judged.{andThen, judged-mapped, by-verdict, meets-none, judged-split}
-use Rattle.record.specs.Record.{noSuchSeat, entryOf, placeOf, closedSeat, seatOf}
+use Rattle.record.specs.Record.{noSuchSeat, entryOf, seatOf}
 use Rattle.seats.specs.Opening.{seatRefusals, seatVerdict}
 use Rattle.air.specs.Air.{aired}
 use Rattle.hearing.specs.Account.{totalsAfter, totalTooLarge}
@@ -26,7 +25,6 @@ use Rattle.record.specs.declared.seat.Field.{Field}
 use Rattle.record.specs.declared.seat.Seat.{Seat}
 use Rattle.record.specs.declared.whole.Bench.{Bench}
 use Rattle.hearing.specs.declared.hearing.Hearing.{Hearing}
-use Rattle.record.proofs.Seats.{placed}
 use Rattle.hearing.proofs.Accepted.{PacketAccepted, packet-accepted}
 
 -- ---- what passing a test leaves
@@ -84,26 +82,18 @@ module _ (setup : Setup) (n : ℕ) (s : Seat) (m : Tx) where
 
 -- ---- the whole call, by what was admitted
 
--- where 13 comes, the seat is not asked
-same-admitted : (setup : Setup) (n : ℕ) (s seat : Seat) (p : List ℕ) → (noSuchSeat n ≡ false → s ≡ seat) → admitted setup n s p ≡ admitted setup n seat p
-same-admitted setup n s seat p same = by-case (noSuchSeat n) refl
-  where
-    by-case : (none : Bool) → noSuchSeat n ≡ none → admitted setup n s p ≡ admitted setup n seat p
-    by-case true e = unfold admitted packetRefusals seatRefusals in simp e
-    by-case false e = ap (λ (z : Seat). admitted setup n z p) (same e)
+pub no-seat : (b : Bench) (n : ℕ) (p : List ℕ) → noSuchSeat n ≡ true → packetSaid b n p ≡ refused 13 0
+unfolding packetSaid packetRefusals seatRefusals
+no-seat b n p e = simp e
 
--- s is what stands at the place of seat n
-module _ (b : Bench) (n : ℕ) (p : List ℕ) (s : Seat) (i : ℕ) (at-place : i ≡ placeOf n) (stands : s ≡ getD (b .seats) i closedSeat)
-    (t : TxRead) (told : txAnswer t ≡ admitted (b .setup) n s p) where
-  here : noSuchSeat n ≡ false → s ≡ seatOf (b .seats) n
-  here real = placed (b .seats) n i at-place stands real
-
+-- s is seat n
+module _ (b : Bench) (n : ℕ) (p : List ℕ) (s : Seat) (seen : s ≡ seatOf (b .seats) n) (t : TxRead) (told : txAnswer t ≡ admitted (b .setup) n s p) where
   abbrev refusals : List Case
   refusals = packetRefusals (b .setup) n (seatOf (b .seats) n) p
 
   judged-here : judged refusals (messageIn p) ≡ txAnswer t
   unfolding admitted
-  judged-here = sym (told ∙ same-admitted (b .setup) n s (seatOf (b .seats) n) p here)
+  judged-here = sym (told ∙ ap (λ (z : Seat). admitted (b .setup) n z p) seen)
 
   pub packet-refused : {r : Refusal} → t ≡ tx.Refused r → packetSaid b n p ≡ refusal r
   unfolding packetSaid
@@ -117,11 +107,8 @@ module _ (b : Bench) (n : ℕ) (p : List ℕ) (s : Seat) (i : ℕ) (at-place : i
     pub says : messageIn p ≡ m
     says = met .1
 
-    pub taken : PacketAccepted (b .setup) n (seatOf (b .seats) n) p
+    taken : PacketAccepted (b .setup) n (seatOf (b .seats) n) p
     taken = packet-accepted (b .setup) n (seatOf (b .seats) n) p (met .0)
-
-    pub seen : s ≡ seatOf (b .seats) n
-    seen = here (taken .is-seat)
 
     pub total-passed : totalTooLarge (totalsAfter s m) ≡ false
     total-passed = rw (seen, sym says) (taken .total-fits)

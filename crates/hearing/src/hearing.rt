@@ -24,7 +24,7 @@ use reader::read_tx;
 use record::Bench;
 use record::Seat;
 use record::Setup;
-use record::place;
+use record::no_such_seat;
 use seats::opening::seat_verdict;
 
 // What an accepted packet answers: packets missing before it, whether to reply now, the side in use after it, and whether its
@@ -53,8 +53,13 @@ pub fn packet(b: Bench, n: u8, p: &[u8]) -> Packeted
     ensures bench { λ r. ⌜ r .bench ≡ settled (packetSaid b n (now (p .entry))) b (aired (heardBench b n (messageIn (now (p .entry))))) ⌝ }
 {
     let setup = b.setup;
-    let i = place(n);
-    let s = b.seats[i];
+    if no_such_seat(n) {
+        return Packeted {
+            bench: b,
+            answer: PacketAnswer::Refused(Refusal::NoSuchSeat),
+        };
+    }
+    let s = b.seats[(n - 1) as usize];
     let told = admitted(setup, n, s, p);
     match told {
         TxRead::Refused(r) => Packeted {

@@ -10,7 +10,7 @@ use lib.Seq.{getD-set-same, getD-set-other}
 use borrow.Author.Tests.{ltb-false, le-ltb, eqb-true, eqb-false, ne-eqb}
 use Rattle.base.proofs.Places.{all-alike, map-place}
 use Rattle.base.proofs.Truths.{or-left, or-right}
-use Rattle.record.specs.Record.{seatNumbers, noSuchSeat, placeOf, closedSeat, entryOf, withEntry, seatOf, lesson}
+use Rattle.record.specs.Record.{seatNumbers, noSuchSeat, closedSeat, entryOf, withEntry, seatOf, lesson}
 use Rattle.record.specs.declared.setup.Setup.{Setup}
 use Rattle.record.specs.declared.seat.Seat.{Seat}
 
@@ -145,11 +145,6 @@ open-is-seat ss n = by-number (noSuchSeat n) refl
     by-number : (none : Bool) → noSuchSeat n ≡ none → seatOf ss n .opened ≡ true → none ≡ false
     by-number true e up = absurd (true≢false (sym up ∙ ap (λ (s : Seat). s .opened) (seat-of-none ss n e)))
     by-number false e up = refl
-
--- what stands at the place of a seat's number is the seat
-pub placed : (seats : List Seat) (n i : ℕ) {s : Seat} → i ≡ placeOf n → s ≡ getD seats i closedSeat → noSuchSeat n ≡ false → s ≡ seatOf seats n
-placed seats n i at-place stands real =
-    stands ∙ ap (λ (k : ℕ). getD seats k closedSeat) (at-place ∙ rw real) ∙ sym (seat-of-place seats n real)
 
 -- a seat's flag in the set-up
 pub lesson-flag : (setup : Setup) (n : ℕ) → noSuchSeat n ≡ false → getD (setup .lesson) (n - 1) false ≡ lesson setup n

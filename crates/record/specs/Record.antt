@@ -73,10 +73,6 @@ freshBench setup =
       air = nobody;
     }
 
--- Where the seat of a number stands; 0 for what is no seat's number.
-abbrev pub placeOf : (n : ℕ) → ℕ
-placeOf n = cond (noSuchSeat n) 0 (n - 1)
-
 -- What an array with a place for each seat holds for seat n; `none` for what is no seat's number.
 abbrev pub entryOf : {A : Type 0} → (none : A) → List A → (n : ℕ) → A
 entryOf none entries n = cond (noSuchSeat n) none (getD entries (n - 1) none)

@@ -16,7 +16,6 @@ pub use seat::Seat;
 pub use seat::Totals;
 pub use seat::is_open;
 pub use seat::no_such_seat;
-pub use seat::place;
 pub use seat::seat_of;
 pub use setup::Setup;
 pub use setup::lesson_seat;

@@ -1,7 +1,6 @@
 // A seat, and what it remembers of the packets that it accepted.
 ghost use mathlib.Core.Path.{_≡_};
-ghost use Prim.Native.Nat.{_<_};
-ghost use Rattle.record.specs.Record.{noSuchSeat, openedSeat, placeOf, seatOf};
+ghost use Rattle.record.specs.Record.{noSuchSeat, openedSeat, seatOf};
 
 // The field of a packet with its items, as a seat remembers it. An item is there or not, and its value, 0 where it is not.
 #[repr(C)]
@@ -114,14 +113,6 @@ pub fn no_such_seat(n: u8) -> bool
     ensures { λ r. ⌜ r ≡ noSuchSeat n ⌝ }
 {
     (n == 0) | (8 < n)
-}
-
-// Where the seat of a number stands; 0 for what is no seat's number, of which nobody asks more than refusal 13.
-pub fn place(n: u8) -> usize
-    ensures is { λ r. ⌜ r ≡ placeOf n ⌝ }
-    ensures within { λ r. ⌜ r < 8 ⌝ }
-{
-    if no_such_seat(n) { 0 } else { (n - 1) as usize }
 }
 
 // The seat of a number; a number that is no seat's counts as a closed one.

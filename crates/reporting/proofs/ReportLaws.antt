@@ -1,7 +1,7 @@
 -- A report's call in steps: 13, 14 and 25, then the writer's 26.
 use Prim.Native.Nat.{ℕ}
-use mathlib.Core.Path.{_≡_, refl, ap, sym, _∙_}
-use mathlib.Core.Bool.{Bool, true, false, cond}
+use mathlib.Core.Path.{_≡_, ap, sym, _∙_}
+use mathlib.Core.Bool.{Bool, false, cond}
 use mathlib.Core.List.{List, [], _∷_, _++_}
 use lib.Dec.{ltb}
 use lib.ListN.{length}
@@ -34,15 +34,6 @@ module _ (n : ℕ) (opened : Bool) (signals audio : ℕ) where
         → cond barred (refused 25 0) (accepted tt) ≡ reportVerdict n opened signals audio
     by-audio barred f g = sym (verdict-in-steps ∙ simp (← e, f, g))
 
--- where 13 comes, the seat is not asked
-same-verdict : (n : ℕ) (opened other : Bool) (signals audio : ℕ) → (noSuchSeat n ≡ false → opened ≡ other)
-    → reportVerdict n opened signals audio ≡ reportVerdict n other signals audio
-same-verdict n opened other signals audio same = by-case (noSuchSeat n) refl
-  where
-    by-case : (none : Bool) → noSuchSeat n ≡ none → reportVerdict n opened signals audio ≡ reportVerdict n other signals audio
-    by-case true e = unfold reportVerdict seatRefusals in simp e
-    by-case false e = ap (λ (o : Bool). reportVerdict n o signals audio) (same e)
-
 module _ (b : Bench) (n timestamp : ℕ) (sound : List ℕ) (room : ℕ) where
   in-steps : reportSaid b n timestamp sound room
       ≡ andThen (reportVerdict n (seatOf (b .seats) n .opened) (b .signals) (length sound))
@@ -52,15 +43,14 @@ module _ (b : Bench) (n timestamp : ℕ) (sound : List ℕ) (room : ℕ) where
       judged-split (seatRefusals n (seatOf (b .seats) n .opened) ++ (25 if audioBarred (b .signals) (length sound) ∷ []))
       (26 if ltb room (length (reportBytes b n timestamp sound)) ∷ []) (length (reportBytes b n timestamp sound))
 
-  -- opened is what stands at the place of seat n
-  module _ {opened : Bool} {v : Verdict} (here : noSuchSeat n ≡ false → opened ≡ seatOf (b .seats) n .opened)
+  module _ {opened : Bool} {v : Verdict} (here : opened ≡ seatOf (b .seats) n .opened)
       (told : verdictOf v ≡ reportVerdict n opened (b .signals) (length sound)) where
     pub report-refused : {r : Refusal} → v ≡ Refused r → reportSaid b n timestamp sound room ≡ refusal r
-    report-refused f = in-steps ∙ simp (← same-verdict n opened _ (b .signals) (length sound) here, ← told, f)
+    report-refused f = in-steps ∙ simp (← here, ← told, f)
 
     pub report-written : v ≡ Fine → reportSaid b n timestamp sound room ≡ put (b .setup .ext) (fromRx (reportOf b n timestamp)) sound room
     unfolding reportBytes putRefusals put
-    report-written f = in-steps ∙ simp (← same-verdict n opened _ (b .signals) (length sound) here, ← told, f)
+    report-written f = in-steps ∙ simp (← here, ← told, f)
 
 module _ (b : Bench) (n timestamp : ℕ) (sound buffer : List ℕ) where
   pub buffer-kept : {k cause : ℕ} → reportSaid b n timestamp sound (length buffer) ≡ refused k cause → reportBuffer b n timestamp sound buffer ≡ buffer

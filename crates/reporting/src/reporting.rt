@@ -15,10 +15,10 @@ use packet::audio_length;
 use packet::quality;
 use record::Air;
 use record::Bench;
+use record::is_open;
 use record::kind::kind_of;
 use record::kind::side_told;
 use record::no_such_seat;
-use record::place;
 use record::seat_of;
 use seats::opening::seat_verdict;
 use writer::Written;
@@ -36,8 +36,8 @@ pub fn report(b: Bench, n: u8, timestamp: u32, audio: &[u8], out: &mut [u8]) -> 
     ensures buffer { λ _. ⌜ now (out .exit) ≡ reportBuffer b n timestamp (now (audio .entry)) (now (out .entry)) ⌝ }
     ensures bench { λ r. ⌜ r .bench ≡ settled (reportSaid b n timestamp (now (audio .entry)) (length (now (out .entry)))) b (reportedBench b n) ⌝ }
 {
-    let i = place(n);
-    let verdict = report_verdict(n, b.seats[i].opened, b.signals, audio.len());
+    let seats = b.seats;
+    let verdict = report_verdict(n, is_open(seats, n), b.signals, audio.len());
     match verdict {
         Verdict::Refused(r) => Reported {
             bench: b,

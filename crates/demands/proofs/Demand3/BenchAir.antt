@@ -5,7 +5,6 @@ use mathlib.Core.Bool.{Bool, true, false, cond, not, _&&_, _||_, false≢true}
 use mathlib.Core.List.{List, [], _∷_}
 use native.Mathlib.Omega.{arith}
 use lib.Dec.{ltb, eqb}
-use lib.ListN.{getD}
 use borrow.Author.Tests.{ltb-true, eqb-true, not-true}
 use Rattle.base.proofs.Truths.{and-left, and-right}
 use Rattle.record.specs.Record.{seatNumbers, noSuchSeat, seatOf, lesson}

@@ -63,7 +63,6 @@ asks-nothing-record = record {
   opened = λ k a. nothing;
   fresh = λ k a. nothing;
   no-such-seat = λ k a. nothing;
-  place = λ k a. nothing;
   seat-of = λ k a. nothing;
   lesson-seat = λ k a. nothing;
   is-open = λ k a. nothing;

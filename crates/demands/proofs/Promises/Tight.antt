@@ -106,7 +106,6 @@ tight-record = record {
   opened = λ k a r s d e. meet;
   fresh = λ k a r s d e. meet;
   no-such-seat = λ k a r s d e. meet;
-  place = λ k a r s d e p q. meet (p .0) (q .0);
   seat-of = λ k a r s d e. meet;
   lesson-seat = λ k a r s d e. meet;
   is-open = λ k a r s d e. meet;

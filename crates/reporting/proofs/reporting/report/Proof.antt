@@ -1,24 +1,16 @@
 use Prim.Native.Nat.{ℕ}
-use mathlib.Core.Path.{refl, ap, sym, _∙_}
+use mathlib.Core.Path.{ap, sym, _∙_}
 use lib.ListN.{length}
 use Rattle.packet.specs.Refusals.{Answer}
 use Rattle.record.specs.Record.{settled}
-use Rattle.record.specs.declared.seat.Seat.{Seat}
 use Rattle.reporting.specs.Reporting.{reportedBench}
-use Rattle.record.proofs.Seats.{placed}
 use Rattle.reporting.proofs.ReportLaws.{seat-passed, report-refused, report-written, buffer-kept, buffer-written}
 use borrow.Author.Needs.{needs}
 use Rattle.reporting.proofs.reporting.report.Statement.{statement}
 use Rattle.reporting.proofs.reporting.report.Tie as tie
 
-place-requires : tie.Need-place-requires
-place-requires c κs = search needs
-
-mul-report-verdict : tie.Need-mul-report-verdict
-mul-report-verdict c = search needs
-
-element-copy-out-report-verdict : tie.Need-element-copy-out-report-verdict
-element-copy-out-report-verdict c = search needs
+is-open-requires : tie.Need-is-open-requires
+is-open-requires c κs = search needs
 
 report-verdict-requires : tie.Need-report-verdict-requires
 report-verdict-requires c κs = search needs
@@ -32,15 +24,15 @@ enum-told c = search needs
 written-requires : tie.Need-written-requires
 written-requires c κs =
     let v = c .before .before .before in
-    let a = v .before .before .before .before .args in
-    seat-passed (a .n) _ (a .t1 .signals) (length (a .audio .now)) (c .before .enum-told .given .1) (v .report-verdict .ensures)
+    let a = v .before .before .before .before .before .args in
+    seat-passed (a .n) _ (a .b .signals) (length (a .audio .now)) (c .before .enum-told .given .1) (v .report-verdict .ensures)
 
 returns : tie.Need-returns
 returns c =
     let v = c .before .before .before in
-    let a = v .before .before .before .before .args in
-    let said = report-refused (a .t1) (a .n) (a .timestamp) (a .audio .now) (length (a .out .now)) (λ real. ap (λ (s : Seat). s .opened) (placed (a .t1 .seats) (a .n) _ (v .before .place .ensures .0) refl real)) (v .report-verdict .ensures) (c .before .verdict .given .1) in
-    (sym said, (sym (buffer-kept (a .t1) (a .n) (a .timestamp) (a .audio .now) (a .out .now) said), simp said))
+    let a = v .before .before .before .before .before .args in
+    let said = report-refused (a .b) (a .n) (a .timestamp) (a .audio .now) (length (a .out .now)) (v .before .is-open .ensures) (v .report-verdict .ensures) (c .before .verdict .given .1) in
+    (sym said, (sym (buffer-kept (a .b) (a .n) (a .timestamp) (a .audio .now) (a .out .now) said), simp said))
 
 same-length : tie.Need-same-length
 same-length c = search needs
@@ -48,14 +40,14 @@ same-length c = search needs
 returns-2 : tie.Need-returns-2
 returns-2 c =
     let v = c .before .before .before .before .before .before in
-    let a = v .before .before .before .before .args in
-    let said = report-written (a .t1) (a .n) (a .timestamp) (a .audio .now) (length (a .out .now)) (λ real. ap (λ (s : Seat). s .opened) (placed (a .t1 .seats) (a .n) _ (v .before .place .ensures .0) refl real)) (v .report-verdict .ensures) (c .before .before .before .before .enum-told .given .1) in
+    let a = v .before .before .before .before .before .args in
+    let said = report-written (a .b) (a .n) (a .timestamp) (a .audio .now) (length (a .out .now)) (v .before .is-open .ensures) (v .report-verdict .ensures) (c .before .before .before .before .enum-told .given .1) in
     let told = c .before .before .written .ensures in
     let answers = told .0 ∙ sym said in (
       answers,
       (
-        told .1 .0 ∙ sym (buffer-written (a .t1) (a .n) (a .timestamp) (a .audio .now) (a .out .now) said),
-        told .1 .1 ∙ ap (λ (s : Answer ℕ). settled s (a .t1) (reportedBench (a .t1) (a .n))) answers,
+        told .1 .0 ∙ sym (buffer-written (a .b) (a .n) (a .timestamp) (a .audio .now) (a .out .now) said),
+        told .1 .1 ∙ ap (λ (s : Answer ℕ). settled s (a .b) (reportedBench (a .b) (a .n))) answers,
       ),
     )
 
@@ -63,9 +55,7 @@ pub report-spec : {M : Type 1} → statement M
 report-spec =
     tie.close
     (tie.spec
-    place-requires
-    mul-report-verdict
-    element-copy-out-report-verdict
+    is-open-requires
     report-verdict-requires
     enum-known-verdict
     enum-told
