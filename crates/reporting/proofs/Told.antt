@@ -12,15 +12,18 @@ use Rattle.packet.specs.Quality.{quality}
 use Rattle.packet.proofs.QualityLaws.{quality-most}
 use Rattle.writer.specs.Writing.{fromRx, sqiWritable, writable}
 use Rattle.packet.specs.declared.message.SqiItem.the-variants as sqi
-use Rattle.record.specs.Record.{noSuchSeat, entryOf}
+use Rattle.record.specs.Record.{noSuchSeat, entryOf, seatOf}
 use Rattle.record.proofs.Seats.{seat-in-range}
+use Rattle.seats.specs.Opening.{mayKey, ownId}
 use Rattle.air.specs.Air.{benchAir}
 use Rattle.air.proofs.Bounds.{ptt-most, id-most}
 use Rattle.reporting.specs.Reporting.{idTold, squTold, sqiTold, audioBarred, reportOf}
 use Rattle.record.specs.declared.whole.Bench.{Bench}
 
-pub id-told-most : (b : Bench) (n : ℕ) → noSuchSeat n ≡ false → idTold (benchAir b) n ≤ 8
-id-told-most b n h = either-most (entryOf false (benchAir b .leads) n) n (benchAir b .id) (seat-in-range n h .1) (id-most b)
+pub id-told-most : (b : Bench) (n call : ℕ) → noSuchSeat n ≡ false → idTold (benchAir b) n call ≤ 8
+id-told-most b n call h =
+    either-most (entryOf false (benchAir b .leads) n) (ownId n call) (benchAir b .id)
+    (either-most (mayKey call) n 0 (seat-in-range n h .1) (omega arith)) (id-most b)
 
 sqi-writable : (signals : ℕ) (level : ℤ) → sqiWritable (sqiTold signals level) ≡ true
 sqi-writable signals level = by-squ (squTold signals)
@@ -36,7 +39,8 @@ pub report-writable : (b : Bench) → b .air ≡ benchAir b → (n timestamp aud
     → writable (fromRx (reportOf b n timestamp)) audio ≡ true
 unfolding writable reportOf
 report-writable b right n timestamp audio h e =
-    let own = id-told-most b n h in
+    let call = seatOf (b .seats) n .call in
+    let own = id-told-most b n call h in
     rw right
-    (all-five _ _ _ true _ (le-leb (benchAir b .ptt) 5 (ptt-most b)) (le-leb (idTold (benchAir b) n) 63 (omega arith)) (sqi-writable (b .signals) (b .level)) refl
+    (all-five _ _ _ true _ (le-leb (benchAir b .ptt) 5 (ptt-most b)) (le-leb (idTold (benchAir b) n call) 63 (omega arith)) (sqi-writable (b .signals) (b .level)) refl
     (not-false (eqb audio 0 || audioLength audio) (or-left (not (eqb audio 0 || audioLength audio)) _ e)))

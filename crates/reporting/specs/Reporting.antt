@@ -14,14 +14,13 @@ use Rattle.packet.specs.declared.message.SqiItem.the-variants as sqi
 use Rattle.packet.specs.declared.message.Rx.{Rx}
 use Rattle.record.specs.Kind.{kindOf, sideTold}
 use Rattle.record.specs.Record.{entryOf, seatOf, withSequence}
-use Rattle.seats.specs.Opening.{seatRefusals}
+use Rattle.seats.specs.Opening.{ownId, seatRefusals}
 use Rattle.record.specs.declared.whole.Bench.{Bench}
 use Rattle.record.specs.declared.shown.Air.{Air}
 
 -- "ptt-id: 0 if off; the seat's own if it is on the air at the top rank; else the smallest on the air at the top rank."
--- (A seat that leads is keyed, so TxRx or Coupling, and its own ptt-id is its number: Kept, may-key.)
-abbrev pub idTold : Air → (n : ℕ) → ℕ
-idTold air n = cond (entryOf false (air .leads) n) n (air .id)
+abbrev pub idTold : Air → (n call : ℕ) → ℕ
+idTold air n call = cond (entryOf false (air .leads) n) (ownId n call) (air .id)
 
 -- "SQU: 1 signal or more. SCT: 2 or more."
 abbrev pub squTold : (signals : ℕ) → Bool
@@ -44,7 +43,7 @@ reportOf b n timestamp =
       ssrc = seatOf (b .seats) n .ssrc;
       ptt = b .air .ptt;
       squ = squTold (b .signals);
-      id = idTold (b .air) n;
+      id = idTold (b .air) n (seatOf (b .seats) n .call);
       pm = seatOf (b .seats) n .heard .field .pm;
       ptts = b .air .ptts;
       sct = sctTold (b .signals);

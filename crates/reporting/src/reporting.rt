@@ -20,6 +20,7 @@ use record::kind::kind_of;
 use record::kind::side_told;
 use record::no_such_seat;
 use record::seat_of;
+use seats::opening::own_id;
 use seats::opening::seat_verdict;
 use writer::Written;
 use writer::put_rx;
@@ -111,7 +112,7 @@ pub fn report_of(b: Bench, n: u8, timestamp: u32) -> Rx
         ssrc: s.ssrc,
         ptt: air.ptt,
         squ: 1 <= b.signals,
-        id: id_told(air, n),
+        id: id_told(air, n, s.call),
         pm: field.pm,
         ptts: air.ptts,
         sct: 2 <= b.signals,
@@ -131,14 +132,25 @@ fn sequence_of(sequences: [u16; 8], n: u8) -> u16
 }
 
 // The seat's own ptt-id if it is on the air at the top rank, else the smallest there, 0 if nobody is.
-fn id_told(air: Air, n: u8) -> u8
-    ensures { λ r. ⌜ r ≡ idTold air n ⌝ }
+fn id_told(air: Air, n: u8, call: u8) -> u8
+    ensures { λ r. ⌜ r ≡ idTold air n call ⌝ }
+{
+    let leads = air.leads;
+    if flag_of(leads, n) {
+        own_id(n, call)
+    } else {
+        air.id
+    }
+}
+
+// The flag of a seat; false for what is no seat's number.
+fn flag_of(flags: [bool; 8], n: u8) -> bool
+    ensures { λ r. ⌜ r ≡ entryOf false flags n ⌝ }
 {
     if no_such_seat(n) {
-        return air.id;
+        return false;
     }
-    let leads = air.leads[(n - 1) as usize];
-    if leads { n } else { air.id }
+    flags[(n - 1) as usize]
 }
 
 // Method RSSI, whose code is 0, exactly while a signal is received.

@@ -40,7 +40,7 @@ type-told b right n timestamp = rw right (ptt-most b)
 
 id-told : (b : Bench) → AirRight b → (n timestamp : ℕ) → noSuchSeat n ≡ false → reportOf b n timestamp .id ≤ 63
 unfolding reportOf
-id-told b right n timestamp real = rw right (omega (arith, id-told-most b n real))
+id-told b right n timestamp real = rw right (omega (arith, id-told-most b n (seatOf (b .seats) n .call) real))
 
 -- ---- the report without the three
 

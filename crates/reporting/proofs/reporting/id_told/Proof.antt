@@ -1,37 +1,18 @@
-use Rattle.record.proofs.RecordLaws.{recordCases}
 use borrow.Author.Needs.{needs}
 use Rattle.reporting.proofs.reporting.id_told.Statement.{statement}
 use Rattle.reporting.proofs.reporting.id_told.Tie as tie
 
-no-such-seat-requires : tie.Need-no-such-seat-requires
-no-such-seat-requires c κs = search needs
+flag-of-requires : tie.Need-flag-of-requires
+flag-of-requires c κs = search needs
+
+own-id-requires : tie.Need-own-id-requires
+own-id-requires c κs = search needs
 
 returns : tie.Need-returns
-returns c = simp (← c .before .no-such-seat .ensures, c .if1 .taken)
-
-sub-leads : tie.Need-sub-leads
-sub-leads c = search recordCases
-
-cast-leads : tie.Need-cast-leads
-cast-leads c = search needs
-
-element-copy-out-leads : tie.Need-element-copy-out-leads
-element-copy-out-leads c = search recordCases
+returns c = simp (← c .before .before .flag-of .ensures, c .before .if1 .taken) (c .own-id .ensures)
 
 returns-2 : tie.Need-returns-2
-returns-2 c = simp (← c .before .before .before .no-such-seat .ensures, c .before .before .if1 .left, c .if2 .taken)
-
-returns-3 : tie.Need-returns-3
-returns-3 c = simp (← c .before .before .before .no-such-seat .ensures, c .before .before .if1 .left, c .if2 .left)
+returns-2 c = simp (← c .before .flag-of .ensures, c .if1 .left)
 
 pub id-told-spec : {M : Type 1} → statement M
-id-told-spec =
-    tie.close
-    (tie.spec
-    no-such-seat-requires
-    returns
-    sub-leads
-    cast-leads
-    element-copy-out-leads
-    returns-2
-    returns-3)
+id-told-spec = tie.close (tie.spec flag-of-requires own-id-requires returns returns-2)
