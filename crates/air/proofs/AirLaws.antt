@@ -5,9 +5,9 @@ use mathlib.Core.Bool.{Bool, true, false, _&&_, and-true, and-false}
 use mathlib.Core.List.{List, []}
 use borrow.Author.Needs.{needs}
 use borrow.Author.Tests.{lt-ltb, le-ltb, le-leb, lt-leb, ne-eqb}
-use lib.Dec.{ltb}
 use lib.ListN.{getD, replicate}
 use Rattle.base.specs.Lists.{howMany}
+use Rattle.packet.specs.Packet.{pttOn}
 use Rattle.record.specs.Record.{noSuchSeat}
 use Rattle.air.specs.Air.{rank, keyed, among}
 use Rattle.air.specs.Marks.{standing, rankOf, seatsAt, firstAt, markIf, markAll, marksOf, leadersAt, addedAt, sendsFrom, pttsShown}
@@ -22,8 +22,8 @@ module _ (f : Field) where
   pub keyed-muted : f .pm ≡ true → false ≡ keyed f
   keyed-muted e = simp (e, and-false)
 
-  pub keyed-on : (r : ℕ) → r ≡ rank (f .ptt) → f .pm ≡ false → ltb 0 r ≡ keyed f
-  keyed-on r e p = simp (e, p, and-true)
+  pub keyed-on : (on : Bool) → on ≡ pttOn (f .ptt) → f .pm ≡ false → on ≡ keyed f
+  keyed-on on e p = simp (e, p, and-true)
 
 module _ (healthy opened muted : Bool) (ptt : ℕ) where
   pub standing-ranked : (r : ℕ) → healthy && opened ≡ true → muted ≡ false → r ≡ rank ptt → r ≡ standing healthy opened muted ptt

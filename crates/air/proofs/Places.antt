@@ -1,16 +1,18 @@
 -- The rank of each seat, at each place of the order, says what the list of keyings says.
 use Prim.Native.Nat.{ℕ, max}
-use mathlib.Core.Path.{_≡_, refl, ap, _∙_}
+use mathlib.Core.Path.{_≡_, refl, ap, sym, _∙_}
 use mathlib.Core.Bool.{Bool, true, false, cond, not, _&&_, and-false}
 use mathlib.Core.List.{List, [], _∷_, map}
 use native.Mathlib.Omega.{arith}
 use borrow.Author.Tests.{ne-eqb, ltb-true, ltb-false}
 use lib.Dec.{eqb, ltb}
+use Rattle.packet.specs.Packet.{pttOn}
 use Rattle.record.specs.Record.{closedSeat, seatOf}
 use Rattle.air.specs.Air.{rank, takesPart, keyingsOf, keyingOf, topRank, atRank}
 use Rattle.air.specs.Marks.{standing, standingOf, rankOf, highest, seatsAt}
 use Rattle.record.specs.declared.seat.Seat.{Seat}
 use Rattle.record.proofs.Seats.{entry-changed}
+use Rattle.air.proofs.RankLaws.{on-is-ranked}
 
 module _ (healthy : Bool) (seats : List Seat) where
   abbrev pub rankNow : ℕ → ℕ
@@ -19,7 +21,7 @@ module _ (healthy : Bool) (seats : List Seat) where
   -- with PTT off its rank is 0, so that it need not be asked whether PTT is on
   stands : (s : Seat) → standingOf healthy s ≡ cond (takesPart healthy s) (rank (s .heard .field .ptt)) 0
   unfolding standing takesPart
-  stands s = by-part healthy (s .opened) (not (s .heard .field .pm)) (ltb 0 k) refl
+  stands s = by-part healthy (s .opened) (not (s .heard .field .pm)) (pttOn (s .heard .field .ptt)) (sym (on-is-ranked (s .heard .field .ptt)))
     where
       k : ℕ
       k = rank (s .heard .field .ptt)
@@ -74,7 +76,9 @@ module _ (healthy : Bool) (seats : List Seat) where
   pub nobody-at-zero : (order : List ℕ) → atRank 0 (keyingsOf healthy seats order) ≡ []
   unfolding keyingsOf atRank takesPart
   nobody-at-zero [] = refl
-  nobody-at-zero (n ∷ order) = by-part healthy (seatOf seats n .opened) (ltb 0 k) (not (seatOf seats n .heard .field .pm)) refl (nobody-at-zero order)
+  nobody-at-zero (n ∷ order) =
+      let ptt = seatOf seats n .heard .field .ptt in
+      by-part healthy (seatOf seats n .opened) (pttOn ptt) (not (seatOf seats n .heard .field .pm)) (sym (on-is-ranked ptt)) (nobody-at-zero order)
     where
       k : ℕ
       k = rank (seatOf seats n .heard .field .ptt)

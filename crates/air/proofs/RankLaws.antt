@@ -1,7 +1,11 @@
--- Each arm of the code that turns a PTT type into its rank, and a rank into its type.
-use Prim.Native.Nat.{ℕ}
-use mathlib.Core.Path.{_≡_}
-use borrow.Author.Tests.{ne-eqb}
+-- Each arm of the code that turns a PTT type into its rank, and a rank into its type; and which types have a rank.
+use Prim.Native.Nat.{ℕ, zero, suc, _<_}
+use mathlib.Core.Path.{_≡_, refl}
+use mathlib.Core.Bool.{and-false}
+use native.Mathlib.Omega.{arith}
+use borrow.Author.Tests.{lt-leb, ne-eqb}
+use lib.Dec.{ltb}
+use Rattle.packet.specs.Packet.{pttOn}
 use Rattle.air.specs.Air.{rank, typeOf}
 
 module _ (ptt : ℕ) where
@@ -25,6 +29,19 @@ module _ (ptt : ℕ) where
 
   pub rank-reserved : (ptt ≡ 1 → ⊥) → (ptt ≡ 2 → ⊥) → (ptt ≡ 3 → ⊥) → (ptt ≡ 4 → ⊥) → (ptt ≡ 5 → ⊥) → 0 ≡ rank ptt
   rank-reserved a b c d e = simp (ne-eqb _ _ a, ne-eqb _ _ b, ne-eqb _ _ c, ne-eqb _ _ d, ne-eqb _ _ e)
+
+-- PTT on is to have a rank
+pub on-is-ranked : (ptt : ℕ) → pttOn ptt ≡ ltb 0 (rank ptt)
+on-is-ranked zero = refl
+on-is-ranked (suc zero) = refl
+on-is-ranked (suc (suc zero)) = refl
+on-is-ranked (suc (suc (suc zero))) = refl
+on-is-ranked (suc (suc (suc (suc zero)))) = refl
+on-is-ranked (suc (suc (suc (suc (suc zero))))) = refl
+on-is-ranked (suc (suc (suc (suc (suc (suc k)))))) = reserved (suc (suc (suc (suc (suc (suc k)))))) (omega arith)
+  where
+    reserved : (ptt : ℕ) → 5 < ptt → pttOn ptt ≡ ltb 0 (rank ptt)
+    reserved ptt far = simp (lt-leb ptt 5 far, and-false, ← rank-reserved ptt (λ e. omega arith) (λ e. omega arith) (λ e. omega arith) (λ e. omega arith) (λ e. omega arith))
 
 module _ (r : ℕ) where
   pub type-test : r ≡ 1 → 5 ≡ typeOf r

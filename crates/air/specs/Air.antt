@@ -4,7 +4,7 @@ use mathlib.Core.Bool.{Bool, false, cond, not, _&&_, _||_}
 use mathlib.Core.List.{List, [], _∷_, _++_, map}
 use lib.Dec.{ltb, leb, eqb}
 use Rattle.base.specs.Lists.{howMany}
-use Rattle.packet.specs.Packet.{off, normal, coupling, priority, emergency, test}
+use Rattle.packet.specs.Packet.{off, normal, coupling, priority, emergency, test, pttOn}
 use Rattle.record.specs.Record.{seatNumbers, seatOf, withAir}
 use Rattle.record.specs.declared.setup.Setup.{Setup}
 use Rattle.record.specs.declared.seat.Field.{Field}
@@ -27,7 +27,7 @@ typeOf r =
 
 -- ".. has PTT on and PM 0"
 abbrev pub keyed : Field → Bool
-keyed f = ltb 0 (rank (f .ptt)) && not (f .pm)
+keyed f = pttOn (f .ptt) && not (f .pm)
 
 -- "An open seat takes part if its last accepted packet since opening has PTT on and PM 0; a closed seat never does.
 -- If the transmitter is unhealthy, nobody does."

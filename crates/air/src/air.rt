@@ -7,6 +7,7 @@ ghost use Rattle.air.specs.Marks.{standing, standingOf, rankOf, highest,
 use crate::marks::mark_if;
 use crate::marks::marked;
 use crate::marks::smallest;
+use packet::ptt_on;
 use record::Air;
 use record::Bench;
 use record::Field;
@@ -47,7 +48,7 @@ fn type_of(rank: u8) -> u8
 pub fn keyed(f: Field) -> bool
     ensures { λ r. ⌜ r ≡ keyed f ⌝ }
 {
-    let on = 0 < rank(f.ptt);
+    let on = ptt_on(f.ptt);
     if f.pm { false } else { on }
 }
 

@@ -47,6 +47,7 @@ pub record AsksNothingPacket : Type 2 where
   pub cause : NothingAsked packet.cause.Reads.requires
   pub quality : NothingAsked packet.quality.Reads.requires
   pub audio-length : NothingAsked packet.audio_length.Reads.requires
+  pub ptt-on : NothingAsked packet.ptt_on.Reads.requires
   pub sqi-allowed : NothingAsked packet.sqi_allowed.Reads.requires
 
 pub record AsksNothingItems : Type 2 where
@@ -146,7 +147,7 @@ pub record AsksNothingGrammar : Type 2 where
   pub named : NothingAsked grammar.named.Reads.requires
   pub parsed : NothingAsked grammar.parsed.Reads.requires
 
--- All 88.
+-- All 89.
 pub record AsksNothing : Type 2 where
   pub base : AsksNothingBase
   pub packet : AsksNothingPacket

@@ -8,7 +8,7 @@ use lib.Dec.{eqb}
 use lib.ListN.{length, getD}
 use Rattle.base.specs.Bytes.{Bytes}
 use Rattle.base.specs.Lists.{howMany}
-use Rattle.packet.specs.Packet.{off, coupling, test}
+use Rattle.packet.specs.Packet.{off, coupling, test, pttOn}
 use Rattle.record.specs.Kind.{kindOf}
 use Rattle.record.specs.Record.{seatNumbers, nothingHeard, closedSeat, freshBench, seatOf, lesson}
 use Rattle.hearing.specs.Account.{mostCounted}
@@ -26,12 +26,12 @@ pub record FieldKept (isLesson : Bool) (kind : Kind) (call own : ℕ) (f : Field
   -- "6 and 7 are reserved and refused"
   pub type-known : f .ptt ≤ test
   -- not "PTT on for Idle or Rxonly; Coupling PTT for TxRx; lesson seat with PTT on other than Test"
-  pub may-key : eqb (f .ptt) off ≡ false → mayKey call ≡ true
+  pub may-key : pttOn (f .ptt) ≡ true → mayKey call ≡ true
   pub coupling-keys : f .ptt ≡ coupling → isCoupling call ≡ true
   pub lesson-only-tests : isLesson ≡ true → eqb (f .ptt) off || eqb (f .ptt) test ≡ true
   -- not "ptt-id not the seat's own; with PTT off 0 also passes"
   pub own-or-none : (f .id ≡ own) ⊎ (f .id ≡ 0)
-  pub keyed-own : eqb (f .ptt) off ≡ false → f .id ≡ own
+  pub keyed-own : pttOn (f .ptt) ≡ true → f .id ≡ own
   -- not "main/standby item .. on a single radio", nor "an item of 1" on a shared one, nor "main/standby item from a lesson seat"
   pub no-item-single : kind ≡ Single → f .sided ≡ false
   pub zero-or-none-shared : kind ≡ Shared → f .standby ≡ false

@@ -60,6 +60,7 @@ pub record TightPacket : Type 1 where
   pub cause : OneResult packet.cause.Reads.Learnt
   pub quality : OneResult packet.quality.Reads.Learnt
   pub audio-length : OneResult packet.audio_length.Reads.Learnt
+  pub ptt-on : OneResult packet.ptt_on.Reads.Learnt
   pub sqi-allowed : OneResult packet.sqi_allowed.Reads.Learnt
 
 pub record TightItems : Type 1 where
@@ -159,7 +160,7 @@ pub record TightGrammar : Type 1 where
   pub named : OneResult grammar.named.Reads.Learnt
   pub parsed : OneResultAndBuffer grammar.parsed.Reads.Learnt (λ k e. e .1 .0)
 
--- All 88.
+-- All 89.
 pub record Tight : Type 1 where
   pub base : TightBase
   pub packet : TightPacket

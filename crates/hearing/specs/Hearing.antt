@@ -5,7 +5,7 @@ use mathlib.Core.List.{List, [], _∷_, _++_}
 use lib.Dec.{eqb}
 use lib.ListN.{length}
 use Rattle.base.specs.Order.{otherSsrc, late}
-use Rattle.packet.specs.Packet.{payload, payloadAt, off, coupling, test}
+use Rattle.packet.specs.Packet.{payload, payloadAt, coupling, test, pttOn}
 use Rattle.packet.specs.Refusals.{Case, _if_, Answer, accepted, refused, judged}
 use Rattle.reader.specs.Reading.{readerRefusals, messageOf, asTx}
 use Rattle.packet.specs.declared.message.Direction.the-variants as direction
@@ -64,16 +64,13 @@ abbrev pub heardOf : Tx → Heard
 heardOf m = record { any = true; ssrc = m .ssrc; sequence = m .sequence; field = fieldHeard m }
 
 -- "21 | PTT on for Idle or Rxonly; Coupling PTT for TxRx; lesson seat with PTT on other than Test"
-abbrev pub pttOn : Tx → Bool
-pttOn m = not (eqb (m .ptt) off)
-
 unfoldable pub keyingBarred : (isLesson : Bool) (call : ℕ) → Tx → Bool
 keyingBarred isLesson call m =
-    (pttOn m && not (mayKey call)) || (eqb (m .ptt) coupling && isTxRx call) || (isLesson && pttOn m && not (eqb (m .ptt) test))
+    (pttOn (m .ptt) && not (mayKey call)) || (eqb (m .ptt) coupling && isTxRx call) || (isLesson && pttOn (m .ptt) && not (eqb (m .ptt) test))
 
 -- "22 | ptt-id not the seat's own; with PTT off 0 also passes"
 unfoldable pub idAllowed : (own : ℕ) → Tx → Bool
-idAllowed own m = eqb (m .id) own || (not (pttOn m) && eqb (m .id) 0)
+idAllowed own m = eqb (m .id) own || (not (pttOn (m .ptt)) && eqb (m .id) 0)
 
 -- "23 | main/standby item .. on a single radio; main/standby item from a lesson seat"; 02, request 10: "23 also for an item of 1 here; a lesson
 -- seat's item is still refused"

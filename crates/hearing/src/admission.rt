@@ -12,6 +12,7 @@ use base::other_ssrc;
 use packet::Refusal;
 use packet::Tx;
 use packet::Verdict;
+use packet::ptt_on;
 use record::Seat;
 use record::Setup;
 use record::kind::item_barred;
@@ -54,7 +55,7 @@ pub(crate) fn message_verdict(setup: Setup, n: u8, s: Seat, m: Tx) -> Verdict
 fn keying_barred(lesson: bool, call: u8, m: Tx) -> bool
     ensures { λ r. ⌜ r ≡ keyingBarred lesson call m ⌝ }
 {
-    let on = m.ptt != 0;
+    let on = ptt_on(m.ptt);
     (on & !may_key(call)) | ((m.ptt == 2) & (call == 2)) | (lesson & on & (m.ptt != 5))
 }
 
@@ -62,7 +63,7 @@ fn keying_barred(lesson: bool, call: u8, m: Tx) -> bool
 fn id_allowed(own: u8, m: Tx) -> bool
     ensures { λ r. ⌜ r ≡ idAllowed own m ⌝ }
 {
-    let on = m.ptt != 0;
+    let on = ptt_on(m.ptt);
     (m.id == own) | (!on & (m.id == 0))
 }
 

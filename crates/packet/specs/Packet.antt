@@ -3,7 +3,7 @@ use Prim.Native.Nat.{ℕ, _+_, _*_}
 use mathlib.Core.Bool.{Bool, true, cond, _&&_, _||_}
 use mathlib.Core.List.{List}
 use lib.ListN.{drop}
-use lib.Dec.{leb, eqb}
+use lib.Dec.{ltb, leb, eqb}
 use Rattle.base.specs.Bytes.{byteAt, number16, number32, bits, partOf}
 use Rattle.packet.specs.declared.message.Direction.{Direction}
 use Rattle.packet.specs.declared.message.Direction.the-variants.{Tx, Rx}
@@ -124,6 +124,10 @@ test = 5
 
 abbrev pub pttAllowed : (ptt : ℕ) → Bool
 pttAllowed ptt = leb ptt test
+
+-- PTT on: a type that is not off. (6 and 7 are none.)
+abbrev pub pttOn : (ptt : ℕ) → Bool
+pttOn ptt = ltb off ptt && pttAllowed ptt
 
 -- "Reserved bits are 0. SQU is 0 in TX."
 abbrev pub squAllowed : Direction → ℕ → Bool

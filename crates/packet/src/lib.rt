@@ -21,4 +21,5 @@ pub use refusal::Verdict;
 pub use refusal::cause;
 pub use refusal::number;
 pub use rules::audio_length;
+pub use rules::ptt_on;
 pub use rules::sqi_allowed;

@@ -1,7 +1,7 @@
-// Rules that the readers and the writers share.
+// Rules that the readers and the writers share, and PTT on, which the bench asks.
 ghost use mathlib.Core.Path.{_≡_};
 ghost use Rattle.packet.specs.Items.{sqiAllowed};
-ghost use Rattle.packet.specs.Packet.{audioLength};
+ghost use Rattle.packet.specs.Packet.{audioLength, pttOn};
 
 // The values that an SQI item may have.
 pub fn sqi_allowed(quality: u8, method: u8) -> bool
@@ -27,4 +27,11 @@ pub fn audio_length(n: usize) -> bool
         return true;
     }
     n == 240
+}
+
+// PTT on: a type that is not off; the reserved codes are none.
+pub fn ptt_on(ptt: u8) -> bool
+    ensures { λ r. ⌜ r ≡ pttOn ptt ⌝ }
+{
+    (0 < ptt) & (ptt <= 5)
 }

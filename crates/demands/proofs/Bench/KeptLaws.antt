@@ -9,6 +9,7 @@ use Rattle.seats.specs.Opening.{isCoupling, holdsCoupling}
 use Rattle.air.specs.Air.{rank, keyed}
 use Rattle.record.specs.declared.whole.Bench.{Bench}
 use Rattle.demands.specs.Kept.{Kept}
+use Rattle.demands.proofs.Bench.KeptSeats.{on-or-off}
 
 -- a table of the six types: a test of the type that holds at each of them
 each-type : (P : ℕ → Type 0) → P 0 → P 1 → P 2 → P 3 → P 4 → P 5 → (ptt : ℕ) → ptt ≤ 5 → P ptt
@@ -20,10 +21,6 @@ each-type P a b c d e f (suc (suc (suc (suc zero)))) h = e
 each-type P a b c d e f (suc (suc (suc (suc (suc zero))))) h = f
 each-type P a b c d e f (suc (suc (suc (suc (suc (suc ptt)))))) h = absurd (omega arith)
 
--- PTT on is a rank
-pub on-is-ranked : (ptt : ℕ) → ptt ≤ 5 → ltb 0 (rank ptt) ≡ not (eqb ptt 0)
-on-is-ranked = each-type (λ ptt. ltb 0 (rank ptt) ≡ not (eqb ptt 0)) refl refl refl refl refl refl
-
 -- every type but off and Test is above Test
 pub above-test : (ptt : ℕ) → ptt ≤ 5 → ltb 1 (rank ptt) ≡ not (eqb ptt 0 || eqb ptt 5)
 above-test = each-type (λ ptt. ltb 1 (rank ptt) ≡ not (eqb ptt 0 || eqb ptt 5)) refl refl refl refl refl refl
@@ -33,7 +30,7 @@ module _ (b : Bench) (kept : Kept b) (n : ℕ) where
   pub keyed-is : keyed (seatOf (b .seats) n .heard .field) ≡ not (eqb (seatOf (b .seats) n .heard .field .ptt) 0) && not (seatOf (b .seats) n .heard .field .pm)
   keyed-is =
       let f = seatOf (b .seats) n .heard .field in
-      ap (λ (t : Bool). t && not (f .pm)) (on-is-ranked (f .ptt) (kept .each-seat n .field-kept .type-known))
+      ap (λ (t : Bool). t && not (f .pm)) (on-or-off (f .ptt) (kept .each-seat n .field-kept .type-known))
 
   module _ (taught : lesson (b .setup) n ≡ true) where
     pub lesson-not-above-test : ltb 1 (rank (seatOf (b .seats) n .heard .field .ptt)) ≡ false

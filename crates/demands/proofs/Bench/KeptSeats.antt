@@ -1,16 +1,17 @@
 -- A seat keeps what Kept says of it: closed, just opened, a packet later, a tick later.
-use Prim.Native.Nat.{ℕ, _+_, _*_, _≤_, _<_}
-use mathlib.Core.Path.{_≡_, refl, ap, sym}
+use Prim.Native.Nat.{ℕ, zero, suc, _+_, _*_, _≤_, _<_}
+use mathlib.Core.Path.{_≡_, refl, ap}
 use mathlib.Core.Bool.{Bool, true, false, not, _&&_, _||_}
 use mathlib.Core.List.{List}
 use mathlib.Core.Logic.{_⊎_, inl, inr}
 use native.Mathlib.Omega.{arith}
 use native.Mathlib.Nat.{mod-lt, mul-pos}
 use lib.Dec.{eqb}
-use borrow.Author.Tests.{eqb-true, eq-eqb, ne-eqb, not-false, ltb-false}
+use borrow.Author.Tests.{lt-ltb, le-leb, eqb-true, eq-eqb, ne-eqb, not-false, ltb-false}
 use Rattle.base.specs.Bytes.{Bytes}
 use Rattle.base.proofs.Truths.{and-right, and-rest, or-left, or-right, or-rest}
 use Rattle.base.proofs.Numbers.{number16-small}
+use Rattle.packet.specs.Packet.{pttOn}
 use Rattle.reader.specs.Reading.{messageOf, itemsHere}
 use Rattle.packet.specs.declared.message.ClimaxItem.{ClimaxItem}
 use Rattle.packet.specs.declared.message.ClimaxItem.the-variants as climax
@@ -62,36 +63,42 @@ no-side side.Absent e = refl
 no-side side.Main e = refl
 no-side side.Standby e = e
 
--- 21 to 23 not met, over their tests
-tests-only : (isLesson off test : Bool) → isLesson && not off && not test ≡ false → isLesson ≡ true → off || test ≡ true
-tests-only true true test e h = refl
-tests-only true false test e h = not-false test e
-tests-only false off test e h = cc
+-- a type is on or off
+pub on-or-off : (ptt : ℕ) → ptt ≤ 5 → pttOn ptt ≡ not (eqb ptt 0)
+on-or-off zero h = refl
+on-or-off (suc k) h = simp (lt-ltb 0 (suc k) (omega arith), le-leb (suc k) 5 h, ne-eqb (suc k) 0 (λ (e : suc k ≡ 0). omega arith))
 
-own-or-off : (own off none : Bool) → own || (not (not off) && none) ≡ true → off ≡ false → own ≡ true
-own-or-off true off none e h = refl
-own-or-off false true none e h = sym h
-own-or-off false false none e h = e
+-- 21 to 23 not met, over their tests
+tests-only : (isLesson on off test : Bool) → on ≡ not off → isLesson && on && not test ≡ false → isLesson ≡ true → off || test ≡ true
+tests-only true on true test is e h = refl
+tests-only true true false test is e h = not-false test e
+tests-only true false false test is e h = cc
+tests-only false on off test is e h = cc
+
+own-or-off : (own on none : Bool) → own || (not on && none) ≡ true → on ≡ true → own ≡ true
+own-or-off true on none e h = refl
+own-or-off false true none e h = e
+own-or-off false false none e h = h
 
 module _ (isLesson : Bool) (kind : Kind) (call own : ℕ) (m : Tx) where
   heard-field-kept : m .ptt ≤ 5 → keyingBarred isLesson call m ≡ false → idAllowed own m ≡ true → sideBarred isLesson kind m ≡ false
       → FieldKept isLesson kind call own (fieldHeard m)
   unfolding keyingBarred idAllowed fieldHeard
   heard-field-kept small barred allowed sided =
-      let off = eqb (m .ptt) 0 in
+      let on = pttOn (m .ptt) in
       let keys = isTxRx call || isCoupling call in
       let alone = eqb (m .ptt) 2 && isTxRx call in
-      let lessons = isLesson && not off && not (eqb (m .ptt) 5) in
-      let first = or-left (not off && not keys || alone) lessons barred in
-      let on-keys : off ≡ false → keys ≡ true = λ e. not-false keys (and-rest (not off) (not keys) (or-left (not off && not keys) alone first) (ap not e)) in
-      let not-txrx : eqb (m .ptt) 2 ≡ true → isTxRx call ≡ false = and-rest (eqb (m .ptt) 2) (isTxRx call) (or-right (not off && not keys) alone first) in
+      let lessons = isLesson && on && not (eqb (m .ptt) 5) in
+      let first = or-left (on && not keys || alone) lessons barred in
+      let on-keys : on ≡ true → keys ≡ true = λ e. not-false keys (and-rest on (not keys) (or-left (on && not keys) alone first) e) in
+      let not-txrx : eqb (m .ptt) 2 ≡ true → isTxRx call ≡ false = and-rest (eqb (m .ptt) 2) (isTxRx call) (or-right (on && not keys) alone first) in
       record {
         type-known = small;
         may-key = on-keys;
-        coupling-keys = λ e. or-rest (isTxRx call) (isCoupling call) (on-keys (ap (λ (k : ℕ). eqb k 0) e)) (not-txrx (eq-eqb (m .ptt) 2 e));
-        lesson-only-tests = tests-only isLesson off (eqb (m .ptt) 5) (or-right (not off && not keys || alone) lessons barred);
+        coupling-keys = λ e. or-rest (isTxRx call) (isCoupling call) (on-keys (ap pttOn e)) (not-txrx (eq-eqb (m .ptt) 2 e));
+        lesson-only-tests = tests-only isLesson on (eqb (m .ptt) 0) (eqb (m .ptt) 5) (on-or-off (m .ptt) small) (or-right (on && not keys || alone) lessons barred);
         own-or-none = by-id (eqb (m .id) own) refl;
-        keyed-own = λ e. eqb-true (m .id) own (own-or-off (eqb (m .id) own) off (eqb (m .id) 0) allowed e);
+        keyed-own = λ e. eqb-true (m .id) own (own-or-off (eqb (m .id) own) on (eqb (m .id) 0) allowed e);
         no-item-single = no-item-single isLesson kind m sided;
         zero-or-none-shared = zero-or-none-shared isLesson kind m sided;
         no-item-lesson = no-item-lesson isLesson kind m sided;
@@ -102,8 +109,8 @@ module _ (isLesson : Bool) (kind : Kind) (call own : ℕ) (m : Tx) where
       by-id : (t : Bool) → eqb (m .id) own ≡ t → (m .id ≡ own) ⊎ (m .id ≡ 0)
       by-id true e = inl (eqb-true (m .id) own e)
       by-id false e =
-          let off = eqb (m .ptt) 0 in
-          inr (eqb-true (m .id) 0 (and-right (not (not off)) (eqb (m .id) 0) (or-rest (eqb (m .id) own) (not (not off) && eqb (m .id) 0) allowed e)))
+          let off = not (pttOn (m .ptt)) in
+          inr (eqb-true (m .id) 0 (and-right off (eqb (m .id) 0) (or-rest (eqb (m .id) own) (off && eqb (m .id) 0) allowed e)))
 
 -- ---- the seat
 

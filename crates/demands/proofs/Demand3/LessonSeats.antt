@@ -5,17 +5,19 @@ use mathlib.Core.Path.{_≡_, refl, sym, ap, _∙_}
 use mathlib.Core.Bool.{Bool, true, false, not, _&&_, _||_, true≢false}
 use mathlib.Core.List.{List, map}
 use native.Mathlib.Omega.{arith}
-use lib.Dec.{eqb}
+use lib.Dec.{ltb, eqb}
 use lib.ListN.{getD, List·getD-map}
-use borrow.Author.Tests.{eqb-true}
+use borrow.Author.Tests.{ltb-false, eqb-true}
 use Rattle.base.proofs.Truths.{or-right}
+use Rattle.packet.specs.Packet.{pttOn}
 use Rattle.packet.specs.Refusals.{NoCase}
 use Rattle.packet.specs.declared.message.Tx.{Tx}
 use Rattle.record.specs.Record.{seatNumbers, noSuchSeat, closedSeat, openedSeat, seatOf, lesson, freshBench, withSeats, withEntry}
 use Rattle.seats.specs.Opening.{isTxRx, isCoupling, holdsCoupling, openedBench, closedBench}
 use Rattle.seats.specs.Ticking.{tickedSeat, tickedBench}
 use Rattle.air.specs.Air.{rank, among, aired}
-use Rattle.hearing.specs.Hearing.{pttOn, keyingBarred, messageIn, heardSeat, fieldHeard, heardBench}
+use Rattle.air.proofs.RankLaws.{on-is-ranked}
+use Rattle.hearing.specs.Hearing.{keyingBarred, messageIn, heardSeat, fieldHeard, heardBench}
 use Rattle.reporting.specs.Reporting.{reportedBench}
 use Rattle.sending.specs.Sending.{sentBench}
 use Rattle.bench.specs.Step.{Call, opening, closing, packet, tick, report, received, transmitter, side, totals, keeping}
@@ -44,13 +46,14 @@ pub record Held (b : Bench) : Type 0 where
 test-at-most : (m : Tx) (call : ℕ) → keyingBarred true call m ≡ false → rank (m .ptt) ≤ 1
 unfolding keyingBarred
 test-at-most m call h =
-    by-type (eqb (m .ptt) 0) (eqb (m .ptt) 5) refl refl
-    (or-right ((pttOn m && not (isTxRx call || isCoupling call)) || (eqb (m .ptt) 2 && isTxRx call)) (pttOn m && not (eqb (m .ptt) 5)) h)
+    let on = pttOn (m .ptt) in
+    by-type on (eqb (m .ptt) 5) (sym (on-is-ranked (m .ptt))) refl
+    (or-right ((on && not (isTxRx call || isCoupling call)) || (eqb (m .ptt) 2 && isTxRx call)) (on && not (eqb (m .ptt) 5)) h)
   where
-    by-type : (a c : Bool) → eqb (m .ptt) 0 ≡ a → eqb (m .ptt) 5 ≡ c → not a && not c ≡ false → rank (m .ptt) ≤ 1
-    by-type true c p q e = rw (eqb-true (m .ptt) 0 p) (omega arith)
-    by-type false true p q e = rw (eqb-true (m .ptt) 5 q) (omega arith)
-    by-type false false p q e = absurd (true≢false e)
+    by-type : (a c : Bool) → ltb 0 (rank (m .ptt)) ≡ a → eqb (m .ptt) 5 ≡ c → a && not c ≡ false → rank (m .ptt) ≤ 1
+    by-type false c p q e = let none = ltb-false 0 (rank (m .ptt)) p in omega arith
+    by-type true true p q e = rw (eqb-true (m .ptt) 5 q) (omega arith)
+    by-type true false p q e = absurd (true≢false e)
 
 -- ---- seats
 

@@ -8,10 +8,11 @@ use native.Mathlib.Omega.{arith}
 use lib.Dec.{ltb, eqb}
 use borrow.Author.Tests.{eqb-true}
 use Rattle.base.proofs.Truths.{and-left, and-right}
-use Rattle.packet.specs.Packet.{test}
+use Rattle.packet.specs.Packet.{test, pttOn}
 use Rattle.record.specs.Record.{seatNumbers, noSuchSeat, entryOf, seatOf, lesson}
 use Rattle.record.proofs.Seats.{each-seat}
 use Rattle.air.specs.Air.{rank, keyed, takesPart, Keying, keyingsOf, keyings, leaders, onAir, among, airOf, benchAir}
+use Rattle.air.proofs.RankLaws.{on-is-ranked}
 use Rattle.record.specs.declared.seat.Seat.{Seat}
 use Rattle.record.specs.declared.shown.Air.{Air}
 use Rattle.record.specs.declared.whole.Bench.{Bench}
@@ -37,7 +38,8 @@ part-above : (healthy : Bool) (s : Seat) → eqb (s .heard .field .ptt) test ≡
 unfolding takesPart
 part-above healthy s other h =
     rank-above (s .heard .field .ptt) other
-    (and-left (ltb 0 (rank (s .heard .field .ptt))) (not (s .heard .field .pm)) (and-right (healthy && s .opened) (keyed (s .heard .field)) h))
+    (sym (on-is-ranked (s .heard .field .ptt))
+    ∙ and-left (pttOn (s .heard .field .ptt)) (not (s .heard .field .pm)) (and-right (healthy && s .opened) (keyed (s .heard .field)) h))
 
 -- ---- a seat that takes no part has no keying
 

@@ -30,6 +30,7 @@ asks-nothing-packet = record {
   cause = λ k a. nothing;
   quality = λ k a. nothing;
   audio-length = λ k a. nothing;
+  ptt-on = λ k a. nothing;
   sqi-allowed = λ k a. nothing;
 }
 

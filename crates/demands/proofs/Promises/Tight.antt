@@ -75,6 +75,7 @@ tight-packet = record {
   cause = λ k a r s d e. meet;
   quality = λ k a r s d e. meet;
   audio-length = λ k a r s d e. meet;
+  ptt-on = λ k a r s d e. meet;
   sqi-allowed = λ k a r s d e. meet;
 }
 
