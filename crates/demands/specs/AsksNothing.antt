@@ -1,5 +1,5 @@
 -- Demand 1: "A packet, setting or order of calls may be anything at all, and each public entry deals with it itself, ..": so none asks
--- anything of its caller. A line for each public function, as in Tight; a line cites the `requires` of the code, as the kit has it
+-- anything of its caller. A line for each that Tight has; a line cites the `requires` of the code, as the kit has it
 -- (`Reads.requires`, in every model of the logic; true where none is written).
 use package.base.Logic.{ent, emp}
 use borrow.Fn.World.{World, Pr}

@@ -1,6 +1,6 @@
 -- 01, How tightly the promises bind: "For every input each public function's promise leaves one possible answer, one next
 -- state and one content of the lent buffer, also when it refuses. Show that any two that satisfy it coincide .."
--- A line for each public function of each crate; docs/PROMISES.md is the table. No promise is said again here: a line
+-- A line for each public function of each crate (but `relay`: Walked); docs/PROMISES.md is the table. No promise is said again here: a line
 -- cites the `ensures` that stands in the code, as the kit reads it (`Reads.Learnt`, what a caller may rely on).
 use Prim.Native.Nat.{ℕ}
 use mathlib.Core.Path.{_≡_}
