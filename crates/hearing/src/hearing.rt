@@ -53,6 +53,7 @@ pub fn packet(b: Bench, n: u8, p: &[u8]) -> Packeted
     ensures bench { λ r. ⌜ r .bench ≡ settled (packetSaid b n (now (p .entry))) b (aired (heardBench b n (messageIn (now (p .entry))))) ⌝ }
 {
     let setup = b.setup;
+    // 13, before a seat is taken out of the bench
     if no_such_seat(n) {
         return Packeted {
             bench: b,
