@@ -24,7 +24,7 @@ import usage
 from soak_lines import LESSONS, MODES, TEST, names_a_lesson, session
 from soak_sides import hold_sides
 from soak_ticks import hold_reports, hold_singles, hold_ticks
-from soak_told import answers, blotted, fail, live_seats, ptt_type, reports_in, seat_sets, seats_and_type
+from soak_told import answers, blotted, fail, keys_test, live_seats, reports_in, seat_sets, seats_and_type
 from soak_totals import hold_totals
 
 AUDIO = 8
@@ -117,7 +117,7 @@ def allowed(line, mixed, alone):
     if not (mixed.startswith("ok ") and alone.startswith("ok ")):
         return False
     if kind == "packet":
-        return ptt_type(line.split()[2]) == TEST and mixed.rpartition(" audio=")[0] == alone.rpartition(" audio=")[0]
+        return keys_test(line.split()[2]) and mixed.rpartition(" audio=")[0] == alone.rpartition(" audio=")[0]
     if kind == "tick" and live_seats(mixed) != live_seats(alone):
         return False
     if kind in ("report", "tick"):

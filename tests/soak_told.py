@@ -5,7 +5,7 @@ import subprocess
 import sys
 
 from handmade import records
-from soak_lines import LESSONS
+from soak_lines import LESSONS, TEST
 
 ROOT = pathlib.Path(__file__).resolve().parent.parent
 
@@ -57,7 +57,8 @@ def further(report, by):
     return report[:2] + number.to_bytes(2, "big") + report[4:]
 
 
-def ptt_type(packet):
-    """Of an accepted packet, behind its CSRC words."""
+def keys_test(packet):
+    """Whether an accepted packet keys Test: its PTT type, in the field behind its CSRC words, and PM 0."""
     data = bytes.fromhex(packet)
-    return data[16 + 4 * (data[0] % 16)] >> 5
+    at = 16 + 4 * (data[0] % 16)
+    return data[at] >> 5 == TEST and not data[at + 1] & 0x20

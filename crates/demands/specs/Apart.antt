@@ -35,9 +35,9 @@ unfoldable pub withoutLessons : Setup → List Call → List Call
 withoutLessons setup [] = []
 withoutLessons setup (c ∷ cs) = cond (lesson setup (named c)) (withoutLessons setup cs) (c ∷ withoutLessons setup cs)
 
--- Whether a call keys Test: a packet of that PTT type.
+-- Whether a call keys Test: a packet of that PTT type, unmuted.
 unfoldable pub keysTest : Call → Bool
-keysTest (packet n p) = eqb (messageIn p .ptt) test
+keysTest (packet n p) = eqb (messageIn p .ptt) test && not (messageIn p .pm)
 keysTest (opening n r) = false
 keysTest (closing n) = false
 keysTest (tick ms timestamp room) = false
@@ -55,6 +55,10 @@ unfoldable pub liveAboveTest : Bench → (seats : List ℕ) → Bool
 liveAboveTest b [] = false
 liveAboveTest b (n ∷ ns) =
     (not (lesson (b .setup) n) && takesPart (b .healthy) (seatOf (b .seats) n) && ltb (rank test) (rank (pttOf b n))) || liveAboveTest b ns
+
+-- Whether a seat keys Test, as things stand.
+abbrev pub isTesting : Bench → (n : ℕ) → Bool
+isTesting b n = takesPart (b .healthy) (seatOf (b .seats) n) && eqb (pttOf b n) test
 
 -- "PTT type, ptt-id and PTTS" made 0 in a report's field, its bytes 16 and 17
 unfoldable pub blotted : List ℕ → List ℕ
@@ -117,9 +121,9 @@ pub record Apart (machine : Machine) (setup : Setup) (x y : Bench) : Type 0 wher
       → audioSent (machine x (packet n p) .answer) ≡ (false, [])
   -- "All other answers .. are the same, except whether a Test keying is on the air": so, at any time, of a live seat that does not key
   -- Test, who is on the air, by 01's sentences
-  pub on-air : (n : ℕ) → lesson setup n ≡ false → eqb (pttOf x n) test ≡ false → SameOnAir n (benchAir x) (benchAir y)
+  pub on-air : (n : ℕ) → lesson setup n ≡ false → isTesting x n ≡ false → SameOnAir n (benchAir x) (benchAir y)
   -- and as the record has it
-  pub on-record : (n : ℕ) → lesson setup n ≡ false → eqb (pttOf x n) test ≡ false → SameOnAir n (x .air) (y .air)
+  pub on-record : (n : ℕ) → lesson setup n ≡ false → isTesting x n ≡ false → SameOnAir n (x .air) (y .air)
 
 abbrev pub LessonsApart : Type 0
 LessonsApart = (setup : Setup) (xs ys : List Call) → withoutLessons setup xs ≡ withoutLessons setup ys

@@ -1,21 +1,21 @@
 -- Demand 3: live seats see of a run what they would see of it without its lesson calls.
 use Prim.Native.Nat.{ℕ}
 use mathlib.Core.Path.{_≡_, refl, sym, ap, subst, subst₂, _∙_}
-use mathlib.Core.Bool.{Bool, true, false, cond}
+use mathlib.Core.Bool.{Bool, true, false, cond, _&&_}
 use mathlib.Core.List.{List, [], _∷_}
 use lib.Dec.{eqb}
 use Rattle.packet.specs.Packet.{test}
 use Rattle.packet.specs.Refusals.{mapped}
 use Rattle.record.specs.Record.{seatNumbers, entryOf, lesson, freshBench, withHealth, withSignals}
 use Rattle.record.proofs.Seats.{same-lessons}
-use Rattle.air.specs.Air.{benchAir, aired}
+use Rattle.air.specs.Air.{takesPart, benchAir, aired}
 use Rattle.bench.specs.Step.{Call, opening, closing, packet, tick, report, received, transmitter, side, totals, done, does, step, keeping, after}
 use Rattle.record.specs.declared.setup.Setup.{Setup}
 use Rattle.record.specs.declared.seat.Seat.{Seat}
 use Rattle.record.specs.declared.shown.Air.{Air}
 use Rattle.record.specs.declared.whole.Bench.{Bench}
 use Rattle.demands.specs.AirKept.{AirRight}
-use Rattle.demands.specs.Apart.{named, withoutLessons, keysTest, pttOf, liveAboveTest, fixed, compared, SameOnAir, LessonsApart}
+use Rattle.demands.specs.Apart.{named, withoutLessons, keysTest, isTesting, liveAboveTest, fixed, compared, SameOnAir, LessonsApart}
 use Rattle.demands.proofs.Bench.Runs.{after-run}
 use Rattle.demands.proofs.Bench.AirKept.{air-at-start, air-by-call}
 use Rattle.demands.proofs.Demand3.WithoutLessons.{low, seat-low}
@@ -120,14 +120,14 @@ module _ (setup : Setup) where
 -- ---- who is on the air
 
 module _ (setup : Setup) (xs ys : List Call) (e : withoutLessons setup xs ≡ withoutLessons setup ys) (n : ℕ) (live : lesson setup n ≡ false)
-    (other : eqb (pttOf (ran setup xs) n) test ≡ false) where
-  -- what a seat last keyed is seen without lesson seats too
-  low-keys : (run : List Call) → pttOf (low (ran setup run)) n ≡ pttOf (ran setup run) n
-  low-keys run = ap (λ (s : Seat). s .heard .field .ptt) (seat-low (ran setup run) n (its-lesson setup run n live))
+    (other : isTesting (ran setup xs) n ≡ false) where
+  -- what a seat keys is seen without lesson seats too
+  low-tests : (run : List Call) → isTesting (low (ran setup run)) n ≡ isTesting (ran setup run) n
+  unfolding low
+  low-tests run = ap (λ (s : Seat). takesPart (ran setup run .healthy) s && eqb (s .heard .field .ptt) test) (seat-low (ran setup run) n (its-lesson setup run n live))
 
-  other-too : eqb (pttOf (ran setup ys) n) test ≡ false
-  other-too =
-      ap (λ (ptt : ℕ). eqb ptt test) (sym (low-keys ys) ∙ ap (λ (x : Bench). pttOf x n) (sym (low-alike setup xs ys e)) ∙ low-keys xs) ∙ other
+  other-too : isTesting (ran setup ys) n ≡ false
+  other-too = sym (low-tests ys) ∙ ap (λ (x : Bench). isTesting x n) (sym (low-alike setup xs ys e)) ∙ low-tests xs ∙ other
 
   on-air : SameOnAir n (benchAir (ran setup xs)) (benchAir (ran setup ys))
   on-air =

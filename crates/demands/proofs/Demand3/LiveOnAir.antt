@@ -16,7 +16,7 @@ use Rattle.air.proofs.RankLaws.{on-is-ranked}
 use Rattle.record.specs.declared.seat.Seat.{Seat}
 use Rattle.record.specs.declared.shown.Air.{Air}
 use Rattle.record.specs.declared.whole.Bench.{Bench}
-use Rattle.demands.specs.Apart.{pttOf, SameOnAir}
+use Rattle.demands.specs.Apart.{pttOf, isTesting, SameOnAir}
 use Rattle.demands.proofs.Demand3.WithoutLessons.{low}
 use Rattle.demands.proofs.Demand3.LiveAir.{keyings-low, seatsOf, off-leaders, off-air, no-keying-left}
 use Rattle.demands.proofs.Demand3.LessonSeats.{Held}
@@ -71,13 +71,14 @@ unfolding benchAir airOf
 off-the-air b n h =
     (off-marks (onAir (b .setup) (keyings b)) n (off-air (b .setup) n (keyings b) h), off-marks (leaders (b .setup) (keyings b)) n (off-leaders (b .setup) n (keyings b) h))
 
-module _ (b : Bench) (i : Held b) (n : ℕ) (live : lesson (b .setup) n ≡ false) (other : eqb (pttOf b n) test ≡ false) where
+module _ (b : Bench) (i : Held b) (n : ℕ) (live : lesson (b .setup) n ≡ false) (other : isTesting b n ≡ false) where
   pub live-on-air : SameOnAir n (benchAir (low b)) (benchAir b)
   live-on-air = by-part (takesPart (b .healthy) (seatOf (b .seats) n)) refl
     where
       by-part : (t : Bool) → takesPart (b .healthy) (seatOf (b .seats) n) ≡ t → SameOnAir n (benchAir (low b)) (benchAir b)
       by-part true e =
-          let same = air-low b i (up-seat b i n live e (part-above (b .healthy) (seatOf (b .seats) n) other e)) in
+          let not-test : eqb (pttOf b n) test ≡ false = sym (ap (λ (part : Bool). part && eqb (pttOf b n) test) e) ∙ other in
+          let same = air-low b i (up-seat b i n live e (part-above (b .healthy) (seatOf (b .seats) n) not-test e)) in
           record { on = ap (λ (a : Air). entryOf false (a .on) n) same; leads = ap (λ (a : Air). entryOf false (a .leads) n) same }
       by-part false e =
           let none : among (seatsOf (keyings b)) n ≡ false = unfold keyings in no-part (b .healthy) (b .seats) n e (b .order) in

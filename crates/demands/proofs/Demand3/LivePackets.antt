@@ -1,7 +1,7 @@
 -- A packet for a live seat, on a bench and on that bench without its lesson seats; and one for a lesson seat.
 use Prim.Native.Nat.{ℕ}
 use mathlib.Core.Path.{_≡_, refl, sym, ap, _∙_}
-use mathlib.Core.Bool.{Bool, true, false, cond}
+use mathlib.Core.Bool.{Bool, true, false, cond, not, _&&_}
 use mathlib.Core.List.{List, []}
 use lib.Dec.{eqb}
 use Rattle.packet.specs.Packet.{payload, test}
@@ -50,7 +50,7 @@ module _ (b : Bench) (n : ℕ) (p : List ℕ) (i : Held b) (live : lesson (b .se
     unfolding hearing
     standby-low = ap (λ (x : Bench). x .standby) (heard-low b n (messageIn p) live (passed .is-seat)) ∙ (unfold low in refl)
 
-    answer-low : (isTest up : Bool) → eqb (messageIn p .ptt) test ≡ isTest → liveAboveTest (heardBench b n (messageIn p)) seatNumbers ≡ up
+    answer-low : (isTest up : Bool) → eqb (messageIn p .ptt) test && not (messageIn p .pm) ≡ isTest → liveAboveTest (heardBench b n (messageIn p)) seatNumbers ≡ up
         → fixed (b .setup) up isTest (told p (hearing (low b) n p)) ≡ fixed (b .setup) up isTest (told p (hearing b n p))
     unfolding fixed
     answer-low true true e u = simp (missing-low, reply-low, standby-low, sent-low (sent-same b n p i live passed (up-next u)))

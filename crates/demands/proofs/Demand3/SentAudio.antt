@@ -1,19 +1,20 @@
 -- Whether a packet's audio is sent, on a bench and on that bench without its lesson seats.
 use Prim.Native.Nat.{ℕ, zero, suc, _-_}
 use mathlib.Core.Path.{_≡_, refl, sym, ap, _∙_}
-use mathlib.Core.Bool.{true, false, false≢true}
+use mathlib.Core.Bool.{Bool, true, false, not, _&&_, false≢true}
 use mathlib.Core.List.{List, [], _∷_}
 use lib.Dec.{eqb}
 use lib.ListN.{getD, set}
-use Rattle.packet.specs.Packet.{test}
+use Rattle.base.proofs.Truths.{and-none}
+use Rattle.packet.specs.Packet.{test, pttOn}
 use Rattle.packet.specs.declared.message.Tx.{Tx}
 use Rattle.record.specs.Record.{noSuchSeat, closedSeat, entryOf, seatOf, lesson}
-use Rattle.air.specs.Air.{keyings}
+use Rattle.air.specs.Air.{takesPart, keyings}
 use Rattle.hearing.specs.Hearing.{messageIn, fieldHeard, heardSeat, heardBench, isOnAir, isSent}
 use Rattle.record.specs.declared.seat.Seat.{Seat}
 use Rattle.record.specs.declared.whole.Bench.{Bench}
 use Rattle.record.specs.declared.shown.Air.{Air}
-use Rattle.demands.specs.Apart.{pttOf}
+use Rattle.demands.specs.Apart.{isTesting}
 use Rattle.demands.proofs.Demand3.Blanking.{set-elsewhere}
 use Rattle.hearing.proofs.Accepted.{PacketAccepted}
 use Rattle.record.proofs.Seats.{put-there, lesson-flag, seat-of-place}
@@ -46,6 +47,16 @@ heard-low b n m live real =
 
 -- ---- a live seat's packet
 
+unkeyed : (part on isTest muted : Bool) → isTest && not muted ≡ false → part && (on && not muted) && isTest ≡ false
+unkeyed part on false muted e = simp and-none
+unkeyed part on true true e = simp and-none
+unkeyed part on true false e = absurd (false≢true (sym e))
+
+not-testing : (healthy : Bool) (s : Seat) (m : Tx) → eqb (m .ptt) test && not (m .pm) ≡ false
+    → takesPart healthy (heardSeat s m) && eqb (heardSeat s m .heard .field .ptt) test ≡ false
+unfolding takesPart heardSeat fieldHeard
+not-testing healthy s m e = unkeyed (healthy && s .opened) (pttOn (m .ptt)) (eqb (m .ptt) test) (m .pm) e
+
 module _ (b : Bench) (n : ℕ) (p : List ℕ) (i : Held b) (live : lesson (b .setup) n ≡ false) (h : PacketAccepted (b .setup) n (seatOf (b .seats) n) p) where
   abbrev m : Tx
   m = messageIn p
@@ -60,10 +71,12 @@ module _ (b : Bench) (n : ℕ) (p : List ℕ) (i : Held b) (live : lesson (b .se
   sent-same up = low-sent ∙ ap (λ (a : Air). entryOf false (a .on) n) (air-low (heardBench b n m) (held-heard b n p h i) up)
 
   -- and at any time where it does not key Test
-  not-test : eqb (m .ptt) test ≡ false → eqb (pttOf (heardBench b n m) n) test ≡ false
-  not-test other = ap (λ (s : Seat). eqb (s .heard .field .ptt) test) (seat-heard b n p h) ∙ (unfold heardSeat fieldHeard in other)
+  not-test : eqb (m .ptt) test && not (m .pm) ≡ false → isTesting (heardBench b n m) n ≡ false
+  not-test other =
+      ap (λ (s : Seat). takesPart (heardBench b n m .healthy) s && eqb (s .heard .field .ptt) test) (seat-heard b n p h)
+      ∙ not-testing (heardBench b n m .healthy) (seatOf (b .seats) n) m other
 
-  pub sent-not-test : eqb (m .ptt) test ≡ false → isSent (low b) n m ≡ isSent b n m
+  pub sent-not-test : eqb (m .ptt) test && not (m .pm) ≡ false → isSent (low b) n m ≡ isSent b n m
   unfolding isSent
   sent-not-test other =
       low-sent ∙ live-on-air (heardBench b n m) (held-heard b n p h i) n (unfold heardBench in live) (not-test other) .on
