@@ -73,6 +73,7 @@ pub record AsksNothingRecord : Type 2 where
   pub opened : NothingAsked the-record.seat.Seat.opened.Reads.requires
   pub fresh : NothingAsked the-record.whole.Bench.fresh.Reads.requires
   pub no-such-seat : NothingAsked the-record.no_such_seat.Reads.requires
+  pub flag-of : NothingAsked the-record.flag_of.Reads.requires
   pub seat-of : NothingAsked the-record.seat_of.Reads.requires
   pub lesson-seat : NothingAsked the-record.lesson_seat.Reads.requires
   pub is-open : NothingAsked the-record.«is_open».Reads.requires
@@ -147,7 +148,7 @@ pub record AsksNothingGrammar : Type 2 where
   pub named : NothingAsked grammar.named.Reads.requires
   pub parsed : NothingAsked grammar.parsed.Reads.requires
 
--- All 89.
+-- All 90.
 pub record AsksNothing : Type 2 where
   pub base : AsksNothingBase
   pub packet : AsksNothingPacket

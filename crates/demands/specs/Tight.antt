@@ -86,6 +86,7 @@ pub record TightRecord : Type 1 where
   pub opened : OneResult the-record.seat.Seat.opened.Reads.Learnt
   pub fresh : OneResult the-record.whole.Bench.fresh.Reads.Learnt
   pub no-such-seat : OneResult the-record.no_such_seat.Reads.Learnt
+  pub flag-of : OneResult the-record.flag_of.Reads.Learnt
   pub seat-of : OneResult the-record.seat_of.Reads.Learnt
   pub lesson-seat : OneResult the-record.lesson_seat.Reads.Learnt
   pub is-open : OneResult the-record.«is_open».Reads.Learnt
@@ -160,7 +161,7 @@ pub record TightGrammar : Type 1 where
   pub named : OneResult grammar.named.Reads.Learnt
   pub parsed : OneResultAndBuffer grammar.parsed.Reads.Learnt (λ k e. e .1 .0)
 
--- All 89.
+-- All 90.
 pub record Tight : Type 1 where
   pub base : TightBase
   pub packet : TightPacket

@@ -2,7 +2,7 @@
 ghost use mathlib.Core.Path.{_≡_};
 ghost use mathlib.Core.Bool.{false};
 ghost use Rattle.base.specs.Bytes.{LiesAt};
-ghost use Rattle.record.specs.Record.{noSuchSeat, entryOf, settled};
+ghost use Rattle.record.specs.Record.{entryOf, settled};
 ghost use Rattle.air.specs.Air.{aired};
 ghost use Rattle.reader.specs.Reading.{txAnswer};
 ghost use Rattle.hearing.specs.Hearing.{messageIn, heardBench, packetSaid, audioIn, audioAt};
@@ -24,6 +24,7 @@ use reader::read_tx;
 use record::Bench;
 use record::Seat;
 use record::Setup;
+use record::flag_of;
 use record::no_such_seat;
 use seats::opening::seat_verdict;
 
@@ -128,9 +129,9 @@ fn let_in(setup: Setup, n: u8, s: Seat, m: Tx) -> TxRead
 
 // Whether seat n is on the air, as the record has it.
 fn on_air(b: Bench, n: u8) -> bool
-    requires { ⌜ noSuchSeat n ≡ false ⌝ }
     ensures { λ r. ⌜ r ≡ entryOf false (b .air .on) n ⌝ }
 {
     let air = b.air;
-    air.on[(n - 1) as usize]
+    let on = air.on;
+    flag_of(on, n)
 }

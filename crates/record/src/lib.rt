@@ -14,6 +14,7 @@ pub use seat::Field;
 pub use seat::Heard;
 pub use seat::Seat;
 pub use seat::Totals;
+pub use seat::flag_of;
 pub use seat::is_open;
 pub use seat::no_such_seat;
 pub use seat::seat_of;

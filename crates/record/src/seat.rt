@@ -1,6 +1,7 @@
 // A seat, and what it remembers of the packets that it accepted.
 ghost use mathlib.Core.Path.{_≡_};
-ghost use Rattle.record.specs.Record.{noSuchSeat, openedSeat, seatOf};
+ghost use mathlib.Core.Bool.{false};
+ghost use Rattle.record.specs.Record.{noSuchSeat, openedSeat, entryOf, seatOf};
 
 // The field of a packet with its items, as a seat remembers it. An item is there or not, and its value, 0 where it is not.
 #[repr(C)]
@@ -113,6 +114,16 @@ pub fn no_such_seat(n: u8) -> bool
     ensures { λ r. ⌜ r ≡ noSuchSeat n ⌝ }
 {
     (n == 0) | (8 < n)
+}
+
+// The flag of a seat; false for what is no seat's number.
+pub fn flag_of(flags: [bool; 8], n: u8) -> bool
+    ensures { λ r. ⌜ r ≡ entryOf false flags n ⌝ }
+{
+    if no_such_seat(n) {
+        return false;
+    }
+    flags[(n - 1) as usize]
 }
 
 // The seat of a number; a number that is no seat's counts as a closed one.

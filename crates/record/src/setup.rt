@@ -1,7 +1,7 @@
 // What is fixed for the life of a bench.
 ghost use mathlib.Core.Path.{_≡_};
 ghost use Rattle.record.specs.Record.{lesson};
-use crate::seat::no_such_seat;
+use crate::seat::flag_of;
 
 #[repr(C)]
 pub struct Setup {
@@ -18,8 +18,6 @@ pub struct Setup {
 pub fn lesson_seat(setup: Setup, n: u8) -> bool
     ensures { λ r. ⌜ r ≡ lesson setup n ⌝ }
 {
-    if no_such_seat(n) {
-        return false;
-    }
-    setup.lesson[(n - 1) as usize]
+    let lesson = setup.lesson;
+    flag_of(lesson, n)
 }

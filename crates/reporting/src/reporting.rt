@@ -15,6 +15,7 @@ use packet::audio_length;
 use packet::quality;
 use record::Air;
 use record::Bench;
+use record::flag_of;
 use record::is_open;
 use record::kind::kind_of;
 use record::kind::side_told;
@@ -141,16 +142,6 @@ fn id_told(air: Air, n: u8, call: u8) -> u8
     } else {
         air.id
     }
-}
-
-// The flag of a seat; false for what is no seat's number.
-fn flag_of(flags: [bool; 8], n: u8) -> bool
-    ensures { λ r. ⌜ r ≡ entryOf false flags n ⌝ }
-{
-    if no_such_seat(n) {
-        return false;
-    }
-    flags[(n - 1) as usize]
 }
 
 // Method RSSI, whose code is 0, exactly while a signal is received.

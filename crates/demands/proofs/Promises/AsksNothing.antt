@@ -64,6 +64,7 @@ asks-nothing-record = record {
   opened = λ k a. nothing;
   fresh = λ k a. nothing;
   no-such-seat = λ k a. nothing;
+  flag-of = λ k a. nothing;
   seat-of = λ k a. nothing;
   lesson-seat = λ k a. nothing;
   is-open = λ k a. nothing;

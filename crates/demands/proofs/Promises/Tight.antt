@@ -107,6 +107,7 @@ tight-record = record {
   opened = λ k a r s d e. meet;
   fresh = λ k a r s d e. meet;
   no-such-seat = λ k a r s d e. meet;
+  flag-of = λ k a r s d e. meet;
   seat-of = λ k a r s d e. meet;
   lesson-seat = λ k a r s d e. meet;
   is-open = λ k a r s d e. meet;

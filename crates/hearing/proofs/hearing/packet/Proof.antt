@@ -59,9 +59,7 @@ missing-before-requires : tie.Need-missing-before-requires
 missing-before-requires c κs = search needs
 
 on-air-requires : tie.Need-on-air-requires
-on-air-requires c κs =
-    let m = c .before .before .before .before .before .before .before .before in
-    sym (m .before .before .before .before .before .no-such-seat .ensures) ∙ m .before .before .before .before .if1 .left
+on-air-requires c κs = search needs
 
 returns-2 : tie.Need-returns-2
 returns-2 c =

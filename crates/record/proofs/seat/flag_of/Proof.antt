@@ -1,7 +1,7 @@
 use Rattle.record.proofs.RecordLaws.{recordCases}
 use borrow.Author.Needs.{needs}
-use Rattle.reporting.proofs.reporting.flag_of.Statement.{statement}
-use Rattle.reporting.proofs.reporting.flag_of.Tie as tie
+use Rattle.record.proofs.seat.flag_of.Statement.{statement}
+use Rattle.record.proofs.seat.flag_of.Tie as tie
 
 no-such-seat-requires : tie.Need-no-such-seat-requires
 no-such-seat-requires c κs = search needs
