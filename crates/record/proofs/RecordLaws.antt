@@ -10,10 +10,9 @@ use lib.Dec.{lit<}
 use lib.ListN.{getD}
 use mir.Syntax.{w32}
 use mir.Val.{Fits}
-use Rattle.record.specs.Record.{noSuchSeat, closedSeat, seatOf, lesson}
-use Rattle.record.specs.declared.setup.Setup.{Setup}
+use Rattle.record.specs.Record.{noSuchSeat, closedSeat, seatOf}
 use Rattle.record.specs.declared.seat.Seat.{Seat}
-use Rattle.record.proofs.Seats.{seat-in-range, seat-of-place, seat-of-none, lesson-flag}
+use Rattle.record.proofs.Seats.{seat-in-range, seat-of-place, seat-of-none}
 
 -- t is what the code's test of the number gave
 module _ (n : ℕ) where
@@ -33,13 +32,6 @@ module _ (n : ℕ) (t : Bool) (e : t ≡ noSuchSeat n) where
   pub seat-there : (seats : List Seat) → t ≡ false → getD seats (n - 1) closedSeat ≡ seatOf seats n
   seat-there seats f = sym (seat-of-place seats n (sym e ∙ f))
 
-  pub lesson-none : (setup : Setup) → t ≡ true → false ≡ lesson setup n
-  unfolding lesson
-  lesson-none setup f = simp (← e, f)
-
-  pub lesson-there : (setup : Setup) → t ≡ false → getD (setup .lesson) (n - 1) false ≡ lesson setup n
-  lesson-there setup f = lesson-flag setup n (sym e ∙ f)
-
 pub open-there : (seats : List Seat) (n : ℕ) (s : Seat) → s ≡ seatOf seats n → s .opened ≡ seatOf seats n .opened
 open-there seats n s e = rw e
 
@@ -47,4 +39,4 @@ open-there seats n s e = rw e
 pub span-fits : (period multiplier : ℕ) → period < 65536 → multiplier < 256 → Fits w32 (period * multiplier)
 span-fits p m h k = record { fits = lt-of-le-of-lt (mul-le-mul {n₂ = 65535} {m₂ = 255} (omega arith) (omega arith)) (lit< tt) }
 
-pub ruleset recordCases = (a-seat, seat-from-one, seat-in-place, seat-none, seat-there, lesson-none, lesson-there, open-there, span-fits, needs)
+pub ruleset recordCases = (a-seat, seat-from-one, seat-in-place, seat-none, seat-there, open-there, span-fits, needs)

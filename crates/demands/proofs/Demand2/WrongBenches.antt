@@ -14,7 +14,7 @@ use Rattle.packet.specs.Quality.{quality}
 use Rattle.reader.specs.Reading.{readerRefusals, itemsHere, messageOf}
 use Rattle.writer.specs.Writing.{risingItems, itemBytes, wordsOf, headOf, encode}
 use Rattle.record.specs.Kind.{kindOf}
-use Rattle.record.specs.Record.{seatNumbers, entryOf, openedSeat, freshBench, seatOf, lesson}
+use Rattle.record.specs.Record.{seatNumbers, openedSeat, freshBench, seatOf, lesson}
 use Rattle.record.proofs.Seats.{entry-changed}
 use Rattle.seats.specs.Opening.{anyCoupling, openRefusals, openSaid, openedBench, seatRefusals}
 use Rattle.air.specs.Air.{takesPart, keyingsOf, keyings, topRank, atRank, leaders, added, onAir, among, smallest, anySends, airOf, benchAir}
@@ -24,14 +24,14 @@ use Rattle.hearing.specs.Hearing.{fieldHeard, keyingBarred, idAllowed, sideBarr
 use Rattle.reporting.specs.Reporting.{reportOf, reportBytes, reportRefusals, reportSaid, reportedBench}
 use Rattle.bench.specs.Step.{Call, packet, Said, done, own, heard, ticked, written, totalled, Outcome, Machine, does, keeping, after}
 use Rattle.record.specs.declared.setup.Setup.{Setup}
-use Rattle.record.specs.declared.shown.Air.{Air}
 use Rattle.record.specs.declared.whole.Bench.{Bench}
 use Rattle.hearing.specs.declared.hearing.Hearing.{Hearing}
-use Rattle.demands.specs.Apart.{pttOf, liveAboveTest, asSeen, amongLive, recordsSeen, fixed, compared, audioSent, SameOnAir}
+use Rattle.demands.specs.Apart.{pttOf, liveAboveTest, asSeen, amongLive, recordsSeen, fixed, compared, audioSent}
 use Rattle.demands.specs.LessonsSeen.{enters, keys, asked, quietReport, sounds}
 use Rattle.demands.specs.WrongBenches.{Keeps, labAfter, Answers, Leaves, WrongBench, refusing, repeating, ignoring, nodding, inventing, withBytes, withCount, retold, wrong, ApartAlone, entered, reported, spoken, Tried, WrongBenches}
 use Rattle.packet.proofs.Judged.{never}
 use Rattle.demands.proofs.Demand3.LiveTicks.{flag-compared, live-alike}
+use Rattle.demands.proofs.Demand3.LiveOnAir.{same-air}
 use Rattle.demands.proofs.Demand3.Apart.{lessons-apart}
 use Rattle.demands.proofs.Demand2.Nodding.{nodding-apart}
 
@@ -106,9 +106,6 @@ quiet-start : (setup : Setup) → liveAboveTest (freshBench setup) seatNumbers �
 unfolding liveAboveTest freshBench takesPart seatOf
 quiet-start setup = simp and-none
 
-seen-alike : (n : ℕ) {a b : Air} → a ≡ b → SameOnAir n a b
-seen-alike n e = record { on = ap (λ (a : Air). entryOf false (a .on) n) e; leads = ap (λ (a : Air). entryOf false (a .leads) n) e }
-
 module _ (machine : Machine) (still : (b : Bench) (c : Call) → machine b c .bench ≡ b) where
   stays : (b : Bench) (cs : List Call) → after machine b cs ≡ b
   unfolding after
@@ -124,8 +121,8 @@ module _ (machine : Machine) (still : (b : Bench) (c : Call) → machine b c .be
         same = λ c live. ap (λ (b : Bench). compared setup c (machine b c)) alike;
         no-lesson-audio = λ n p hidden up. absurd (false≢true
             (sym (quiet-start setup) ∙ ap (λ (b : Bench). liveAboveTest b seatNumbers) (sym (still _ _ ∙ stays (freshBench setup) xs)) ∙ up));
-        on-air = λ n live other. seen-alike n (ap benchAir alike);
-        on-record = λ n live other. seen-alike n (ap (λ (b : Bench). b .air) alike);
+        on-air = λ n live other. same-air n (ap benchAir alike);
+        on-record = λ n live other. same-air n (ap (λ (b : Bench). b .air) alike);
       }
 
 -- ---- demand 3 alone: a bench right but for what it says

@@ -6,13 +6,12 @@ use mathlib.Core.List.{List, [], _∷_}
 use lib.Dec.{eqb}
 use Rattle.packet.specs.Packet.{test}
 use Rattle.packet.specs.Refusals.{mapped}
-use Rattle.record.specs.Record.{seatNumbers, entryOf, lesson, freshBench, withHealth, withSignals}
+use Rattle.record.specs.Record.{seatNumbers, lesson, freshBench, withHealth, withSignals}
 use Rattle.record.proofs.Seats.{same-lessons}
 use Rattle.air.specs.Air.{takesPart, benchAir, aired}
 use Rattle.bench.specs.Step.{Call, opening, closing, packet, tick, report, received, transmitter, side, totals, done, does, step, keeping, after}
 use Rattle.record.specs.declared.setup.Setup.{Setup}
 use Rattle.record.specs.declared.seat.Seat.{Seat}
-use Rattle.record.specs.declared.shown.Air.{Air}
 use Rattle.record.specs.declared.whole.Bench.{Bench}
 use Rattle.demands.specs.AirKept.{AirRight}
 use Rattle.demands.specs.Apart.{named, withoutLessons, keysTest, isTesting, liveAboveTest, fixed, compared, SameOnAir, LessonsApart}
@@ -22,7 +21,7 @@ use Rattle.demands.proofs.Demand3.WithoutLessons.{low, seat-low}
 use Rattle.demands.proofs.Bench.SeatAfter.{setup-kept}
 use Rattle.demands.proofs.Demand3.LessonSeats.{Held, held-call, held-fresh}
 use Rattle.demands.proofs.Demand3.BenchAir.{above-test-low}
-use Rattle.demands.proofs.Demand3.LiveOnAir.{live-on-air}
+use Rattle.demands.proofs.Demand3.LiveOnAir.{same-air, live-on-air}
 use Rattle.demands.proofs.Demand3.LessonCalls.{unseen}
 use Rattle.demands.proofs.Demand3.LiveCalls.{Match, match-plain, match-opening, match-closing, match-side, match-totals}
 use Rattle.demands.proofs.Demand3.LiveReports.{match-report}
@@ -133,11 +132,8 @@ module _ (setup : Setup) (xs ys : List Call) (e : withoutLessons setup xs ≡ wi
   on-air =
       let x = live-on-air (ran setup xs) (reached setup xs .held) n (its-lesson setup xs n live) other in
       let y = live-on-air (ran setup ys) (reached setup ys .held) n (its-lesson setup ys n live) other-too in
-      let alike = ap benchAir (low-alike setup xs ys e) in
-      record {
-        on = sym (x .on) ∙ ap (λ (a : Air). entryOf false (a .on) n) alike ∙ y .on;
-        leads = sym (x .leads) ∙ ap (λ (a : Air). entryOf false (a .leads) n) alike ∙ y .leads;
-      }
+      let alike : SameOnAir n (benchAir (low (ran setup xs))) (benchAir (low (ran setup ys))) = same-air n (ap benchAir (low-alike setup xs ys e)) in
+      record { on = sym (x .on) ∙ alike .on ∙ y .on; leads = sym (x .leads) ∙ alike .leads ∙ y .leads }
 
   on-record : SameOnAir n (ran setup xs .air) (ran setup ys .air)
   on-record = subst₂ (SameOnAir n) (sym (reached setup xs .right)) (sym (reached setup ys .right)) on-air

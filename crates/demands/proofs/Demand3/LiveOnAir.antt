@@ -10,7 +10,7 @@ use borrow.Author.Tests.{eqb-true}
 use Rattle.base.proofs.Truths.{and-left, and-right}
 use Rattle.packet.specs.Packet.{test, pttOn}
 use Rattle.record.specs.Record.{seatNumbers, noSuchSeat, entryOf, seatOf, lesson}
-use Rattle.record.proofs.Seats.{each-seat}
+use Rattle.record.proofs.Seats.{at-seat}
 use Rattle.air.specs.Air.{rank, keyed, takesPart, Keying, keyingsOf, keyings, leaders, onAir, among, airOf, benchAir}
 use Rattle.air.proofs.RankLaws.{on-is-ranked}
 use Rattle.record.specs.declared.seat.Seat.{Seat}
@@ -62,14 +62,17 @@ off-marks set n h = by-case (noSuchSeat n) refl
   where
     by-case : (t : Bool) → noSuchSeat n ≡ t → entryOf false (map (among set) seatNumbers) n ≡ false
     by-case true e = simp e
-    by-case false e =
-        each-seat (λ k. entryOf false (map (among set) seatNumbers) k ≡ among set k) (refl, refl, refl, refl, refl, refl, refl, refl) n e ∙ h
+    by-case false e = at-seat (among set) false n e ∙ h
 
 off-the-air : (b : Bench) (n : ℕ) → among (seatsOf (keyings b)) n ≡ false
     → (entryOf false (benchAir b .on) n ≡ false) × (entryOf false (benchAir b .leads) n ≡ false)
 unfolding benchAir airOf
 off-the-air b n h =
     (off-marks (onAir (b .setup) (keyings b)) n (off-air (b .setup) n (keyings b) h), off-marks (leaders (b .setup) (keyings b)) n (off-leaders (b .setup) n (keyings b) h))
+
+-- the same air shows the same of a seat
+pub same-air : (n : ℕ) {a b : Air} → a ≡ b → SameOnAir n a b
+same-air n e = record { on = ap (λ (a : Air). entryOf false (a .on) n) e; leads = ap (λ (a : Air). entryOf false (a .leads) n) e }
 
 module _ (b : Bench) (i : Held b) (n : ℕ) (live : lesson (b .setup) n ≡ false) (other : isTesting b n ≡ false) where
   pub live-on-air : SameOnAir n (benchAir (low b)) (benchAir b)
@@ -79,7 +82,7 @@ module _ (b : Bench) (i : Held b) (n : ℕ) (live : lesson (b .setup) n ≡ fals
       by-part true e =
           let not-test : eqb (pttOf b n) test ≡ false = sym (ap (λ (part : Bool). part && eqb (pttOf b n) test) e) ∙ other in
           let same = air-low b i (up-seat b i n live e (part-above (b .healthy) (seatOf (b .seats) n) not-test e)) in
-          record { on = ap (λ (a : Air). entryOf false (a .on) n) same; leads = ap (λ (a : Air). entryOf false (a .leads) n) same }
+          same-air n same
       by-part false e =
           let none : among (seatsOf (keyings b)) n ≡ false = unfold keyings in no-part (b .healthy) (b .seats) n e (b .order) in
           let low-none : among (seatsOf (keyings (low b))) n ≡ false =
