@@ -7,3 +7,8 @@ pub mod AirLaws
 pub mod OrderLaws
 pub mod Bounds
 pub mod Kept
+pub mod OrderCounts
+pub mod Members
+pub mod RanksInWords
+pub mod InWords
+pub mod OrderInWords

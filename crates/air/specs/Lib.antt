@@ -3,3 +3,4 @@ pub mod Air
 pub mod Order
 pub mod Marks
 pub mod Carrying
+pub mod InWords

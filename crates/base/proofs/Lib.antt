@@ -9,3 +9,4 @@ pub mod Buffers
 pub mod Signed
 pub mod Distances
 pub mod OrderLaws
+pub mod InWords

@@ -3,3 +3,4 @@ pub mod Bytes
 pub mod Lists
 pub mod Text
 pub mod Order
+pub mod InWords

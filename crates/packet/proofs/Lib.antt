@@ -3,3 +3,4 @@ pub mod TellApart
 pub mod QualityLaws
 pub mod Levels
 pub mod ItemLaws
+pub mod InWords

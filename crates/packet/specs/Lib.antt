@@ -3,3 +3,4 @@ pub mod Packet
 pub mod Items
 pub mod Refusals
 pub mod Quality
+pub mod InWords

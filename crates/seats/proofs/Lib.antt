@@ -4,3 +4,4 @@ pub mod TickingLaws
 pub mod TwoTicks
 pub mod RadioLaws
 pub mod TellApart
+pub mod InWords

@@ -3,3 +3,4 @@ pub mod Opening
 pub mod Ticking
 pub mod Radio
 pub mod Answers
+pub mod InWords

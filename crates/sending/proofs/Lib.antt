@@ -5,3 +5,4 @@ pub mod Numbers
 pub mod TwoTicks
 pub mod Singles
 pub mod SendingLaws
+pub mod InWords

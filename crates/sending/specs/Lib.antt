@@ -1,2 +1,3 @@
 -- What a tick does, tells and sends.
 pub mod Sending
+pub mod InWords

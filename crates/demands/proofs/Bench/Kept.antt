@@ -35,7 +35,7 @@ use Rattle.record.proofs.Seats.{put-cases, as-many-entries, seat-of-eight-close
 use Rattle.sending.proofs.Numbers.{as-many-numbers, numbers-fit}
 use Rattle.seats.proofs.OpeningLaws.{none-coupling}
 use Rattle.demands.proofs.Bench.SeatAfter.{same-setup, as-many-seats, seat-made}
-use Rattle.demands.proofs.Bench.Order.{many-order-after, length-order-after}
+use Rattle.air.proofs.OrderCounts.{many-order-after, length-order-after}
 use Rattle.demands.proofs.Bench.KeptSeats.{closed-seat-kept, opened-seat-kept, heard-seat-kept, ticked-seat-kept}
 
 pub kept-fresh : (setup : Setup) → Kept (freshBench setup)

@@ -31,7 +31,7 @@ use Rattle.seats.proofs.Accepted.{OpenAccepted, open-accepted}
 use Rattle.hearing.proofs.Accepted.{PacketAccepted, packet-accepted}
 use Rattle.demands.specs.ExactCalls.{refusalsOf}
 use Rattle.demands.proofs.Demand1.Calls.{benchAfter, after-call}
-use Rattle.demands.proofs.Bench.Order.{among-after}
+use Rattle.air.proofs.OrderCounts.{among-after}
 use Rattle.record.proofs.Seats.{put-cases, each-seat, lesson-flag, seat-of-place}
 
 abbrev pub Meek : Seat → Type 0
