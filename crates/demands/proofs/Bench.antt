@@ -6,6 +6,11 @@ pub mod Kept
 pub mod KeptLaws
 pub mod AirKept
 pub mod AudioSent
+pub mod EventsSet
+pub mod SideMoves
+pub mod Limits
+pub mod PacketTells
+pub mod SilenceAndDue
 pub mod AnswersStay
 pub mod TicksAddUp
 pub mod AsSingles
@@ -15,3 +20,7 @@ pub mod SharedRadio
 pub mod Accounts
 pub mod TotalsBound
 pub mod DueAtLeastOnce
+pub mod OnTheAir
+pub mod KeyingsInOrder
+pub mod BeganFirst
+pub mod ReportTells

@@ -3,3 +3,4 @@ pub mod Exact
 pub mod Calls
 pub mod ExactCalls
 pub mod ExactAll
+pub mod EachRefusal

@@ -24,3 +24,4 @@ pub mod Tenths
 pub mod Steps
 pub mod Nodding
 pub mod WrongBenches
+pub mod Unreadable

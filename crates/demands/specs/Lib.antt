@@ -6,6 +6,8 @@ pub mod Plain
 pub mod Inversion
 pub mod RoundTrip
 pub mod LaidOut
+pub mod Unreadable
+pub mod EachRefusal
 pub mod Unwritable
 pub mod Rewrite
 pub mod SteppedOver
@@ -16,10 +18,19 @@ pub mod SeatAfter
 pub mod Kept
 pub mod AirKept
 pub mod AudioSent
+pub mod PacketTells
+pub mod Limits
+pub mod SideMoves
+pub mod EventsSet
+pub mod KeyingsInOrder
+pub mod BeganFirst
+pub mod SilenceAndDue
 pub mod AnswersStay
 pub mod TicksAddUp
 pub mod AsSingles
 pub mod Apart
+pub mod OnTheAir
+pub mod ReportTells
 pub mod LessonsSeen
 pub mod OneDifference
 pub mod Room
@@ -29,6 +40,7 @@ pub mod TotalsBound
 pub mod DueAtLeastOnce
 pub mod Undisturbed
 pub mod WrongBenches
+pub mod CallWidths
 pub mod Tight
 pub mod AsksNothing
 pub mod StepOfCode

@@ -22,6 +22,7 @@ use Rattle.record.specs.declared.kind.Kind.the-variants.{Single, Pair, Shared}
 use Rattle.record.specs.declared.seat.Field.{Field}
 use Rattle.record.specs.declared.seat.Seat.{Seat}
 use Rattle.record.specs.declared.whole.Bench.{Bench}
+use Rattle.air.specs.Air.{aired}
 use Rattle.air.specs.InWords.{lastField}
 use Rattle.hearing.specs.Hearing.{hasDelay, delayOf, hasSide, isStandby, fieldHeard, messageIn, heardSeat, takesEffect, sideAfter, heardBench, sameField, hearing}
 use Rattle.hearing.specs.InWords.{Says, Heeded}
@@ -156,7 +157,7 @@ module _ (b : Bench) (n : ℕ) (p : List ℕ) (eight : length (b .seats) ≡ 8) 
   unfolding heardBench
   next-side = refl
 
-  pub heeded : late (before .heard .any) (before .heard .sequence) (m .sequence) ≡ false → Heeded b n m (hearing b n p) (heardBench b n m)
+  pub heeded : late (before .heard .any) (before .heard .sequence) (m .sequence) ≡ false → Heeded b n m (hearing b n p) (aired (heardBench b n m))
   unfolding hearing heardSeat fieldHeard
   heeded in-time =
       record {

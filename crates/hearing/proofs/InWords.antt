@@ -7,7 +7,7 @@ use lib.Dec.{ltb, leb, eqb}
 use borrow.Author.Tests.{ltb-true, lt-ltb, leb-true, le-leb, eqb-true, eqb-false, ne-eqb, not-true}
 use Rattle.base.specs.Order.{otherSsrc, late, missing}
 use Rattle.base.proofs.InWords.{so-many, no-other, late-exactly}
-use Rattle.base.proofs.Truths.{and-left, and-right, or-left, or-right}
+use Rattle.base.proofs.Truths.{and-left, and-right, or-left, or-right, _and_}
 use Rattle.packet.specs.Packet.{pttOn}
 use Rattle.packet.proofs.InWords.{MetIf, Agree}
 use Rattle.packet.specs.declared.message.SideItem.{SideItem}
@@ -169,7 +169,7 @@ module _ (setup : Setup) (n : ℕ) (s : Seat) (m : Tx) where
 
   pub message-agrees : m .ptt ≤ 5 → Agree (MessageBarred setup n s m) (messageRefusals setup n s m)
   unfolding messageRefusals
-  message-agrees known = (by-ssrc, λ ssrc. (by-order, λ in-time. (by-keying, λ keys. (by-id known, λ id. (by-side, λ side. (by-total in-time, λ all. tt))))))
+  message-agrees known = by-ssrc and λ _. by-order and λ in-time. by-keying and λ _. by-id known and λ _. by-side and λ _. by-total in-time and λ _. tt
 
   -- a message is barred with 19 and more
   pub message-range : {k c : ℕ} → MessageBarred setup n s m k c → 19 ≤ k

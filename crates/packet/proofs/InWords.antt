@@ -1,13 +1,15 @@
 -- The definitions of this crate, held to InWords.
 use Prim.Native.Nat.{ℕ, zero, suc, _+_, _*_, _-_, _≤_, _<_}
 use mathlib.Core.Path.{_≡_, refl, sym, ap, subst, _∙_}
-use mathlib.Core.Bool.{Bool, true, false, cond, false≢true}
-use mathlib.Core.List.{List, [], _∷_}
+use mathlib.Core.Bool.{Bool, true, false, cond, _&&_, false≢true}
+use mathlib.Core.List.{List, [], _∷_, _++_}
 use mathlib.Core.Logic.{inl, inr}
 use native.Mathlib.Omega.{arith}
 use lib.IntN.{ℤ, pos, negℤ}
-use borrow.Author.Tests.{lt-ltb, le-ltb}
-use Rattle.packet.specs.Refusals.{Case, accepted, refused, causeOf, judged}
+use lib.Dec.{leb}
+use borrow.Author.Tests.{lt-ltb, le-ltb, leb-true}
+use Rattle.base.proofs.Truths.{and-left, and-right}
+use Rattle.packet.specs.Refusals.{Case, NoCase, accepted, refused, causeOf, judged}
 use Rattle.packet.specs.Quality.{quality}
 use Rattle.packet.specs.InWords.{FirstMet, NoneMet, TurnedAway, IsQuality}
 use Rattle.packet.proofs.Judged.{never}
@@ -84,6 +86,27 @@ module _ {A : Type 0} (Met : (number cause : ℕ) → Type 0) (a : A) where
 pub met-alike : {Met Other : (number cause : ℕ) → Type 0} {n : ℕ} {t : Bool} → MetIf Met n t
     → ((c : ℕ) → Met n c → Other n c) → ((c : ℕ) → Other n c → Met n c) → MetIf Other n t
 met-alike {n = n} line to from = record { if-holds = λ e. to (causeOf n) (line .if-holds e); only-if = λ c m. line .only-if c (from c m) }
+
+-- a list in two pieces
+pub agree-both : (Met : (number cause : ℕ) → Type 0) (cs ds : List Case) → Agree Met cs → (NoCase cs → Agree Met ds) → Agree Met (cs ++ ds)
+agree-both Met [] ds first second = second tt
+agree-both Met (c ∷ cs) ds first second = (first .0, λ h. agree-both Met cs ds (first .1 h) (λ none. second (h, none)))
+
+-- a table that is another for the numbers of a list
+abbrev pub within : (low high : ℕ) → List Case → Bool
+within low high [] = true
+within low high (c ∷ cs) = leb low (c .number) && leb (c .number) high && within low high cs
+
+pub agree-alike : {Met Other : (number cause : ℕ) → Type 0} (low high : ℕ) (cs : List Case) → within low high cs ≡ true → ((n c : ℕ) → Met n c → Other n c)
+    → ((n c : ℕ) → low ≤ n → n ≤ high → Other n c → Met n c) → Agree Met cs → Agree Other cs
+agree-alike low high [] inside to from agree = tt
+agree-alike low high (c ∷ cs) inside to from agree =
+    let both = and-left (leb low (c .number) && leb (c .number) high) (within low high cs) inside in
+    let above = leb-true low (c .number) (and-left (leb low (c .number)) (leb (c .number) high) both) in
+    let below = leb-true (c .number) high (and-right (leb low (c .number)) (leb (c .number) high) both) in (
+      met-alike (agree .0) (to (c .number)) (λ k. from (c .number) k above below),
+      λ h. agree-alike low high cs (and-right (leb low (c .number) && leb (c .number) high) (within low high cs) inside) to from (agree .1 h),
+    )
 
 -- ---- the quality of a level
 

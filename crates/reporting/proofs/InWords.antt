@@ -9,7 +9,7 @@ use lib.Dec.{ltb, leb, eqb}
 use lib.ListN.{length}
 use borrow.Author.Tests.{ltb-true, ltb-false, lt-ltb, leb-true, leb-false, le-leb, eqb-true, eqb-false, ne-eqb, not-true}
 use Rattle.base.specs.Bytes.{bit}
-use Rattle.base.proofs.Truths.{and-left, and-right}
+use Rattle.base.proofs.Truths.{and-left, and-right, _and_}
 use Rattle.packet.specs.Quality.{quality}
 use Rattle.packet.proofs.InWords.{MetIf, Agree, met-alike, is-quality}
 use Rattle.writer.specs.Writing.{audioWritable}
@@ -153,7 +153,7 @@ module _ (b : Bench) (n : ℕ) (sound : List ℕ) (room : ℕ) where
 
   pub report-agrees : (timestamp : ℕ) → Agree (ReportBarred b n sound room) (reportRefusals b n timestamp sound room)
   unfolding reportRefusals seatRefusals
-  report-agrees timestamp = (by-13, λ real. (by-14, λ is-open. (by-audio, λ fine. (by-room timestamp, λ fits. tt))))
+  report-agrees timestamp = by-13 and λ _. by-14 and λ _. by-audio and λ _. by-room timestamp and λ _. tt
 
 -- ---- its next number
 

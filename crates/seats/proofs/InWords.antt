@@ -8,7 +8,7 @@ use native.Mathlib.Omega.{arith}
 use lib.Dec.{ltb, leb, eqb}
 use lib.ListN.{length, getD}
 use borrow.Author.Tests.{ltb-true, lt-ltb, leb-false, lt-leb, eqb-true, eqb-false, ne-eqb, not-true}
-use Rattle.base.proofs.Truths.{and-left, and-right, and-none}
+use Rattle.base.proofs.Truths.{and-left, and-right, and-none, _and_}
 use Rattle.packet.proofs.InWords.{MetIf, Agree}
 use Rattle.record.specs.Kind.{kindOf, hasOneSide}
 use Rattle.record.specs.Record.{noSuchSeat, closedSeat, openedSeat, seatOf, lesson}
@@ -17,7 +17,7 @@ use Rattle.record.specs.declared.seat.Seat.{Seat}
 use Rattle.record.specs.declared.whole.Bench.{Bench}
 use Rattle.seats.specs.Opening.{callCode, ownId, asksCoupling, holdsCoupling, timesAllowed, anyCoupling, openRefusals, seatRefusals}
 use Rattle.seats.specs.Radio.{sideRefusals}
-use Rattle.seats.specs.InWords.{NoSeat, SeatBarred, no-seat, not-open, OpenBarred, no-such-seat, open-already, too-short, too-long, too-few, too-many, lesson-coupling, coupling-taken, OwnId, keys, listens, JustOpened, EventBarred, single}
+use Rattle.seats.specs.InWords.{NoSeat, SeatBarred, no-seat, not-open, OpenBarred, no-such-seat, open-already, too-short, too-long, too-few, too-many, lesson-coupling, coupling-taken, OwnId, keys, listens, Coded, idle, rx-only, tx-rx, coupling, JustOpened, EventBarred, single}
 use Rattle.seats.specs.declared.opening.CallType.{CallType}
 use Rattle.seats.specs.declared.opening.CallType.the-variants.{Idle, RxOnly, TxRx, Coupling}
 use Rattle.seats.specs.declared.opening.Request.{Request}
@@ -55,7 +55,7 @@ module _ (b : Bench) (n : ℕ) where
 
   pub seat-agrees : Agree (SeatBarred b n) (seatRefusals n (seatOf (b .seats) n .opened))
   unfolding seatRefusals
-  seat-agrees = (seat-13, λ real. (seat-14, λ up. tt))
+  seat-agrees = seat-13 and λ _. seat-14 and λ _. tt
 
   -- a seat bars with 13 and 14 alone
   pub seat-range : {k c : ℕ} → SeatBarred b n k c → (13 ≤ k) × (k ≤ 14)
@@ -147,7 +147,7 @@ module _ (b : Bench) (n : ℕ) (r : Request) where
 
   pub open-agrees : length (b .seats) ≡ 8 → Agree (OpenBarred b n r) (openRefusals (b .setup) n (b .seats) r)
   unfolding openRefusals
-  open-agrees eight = (open-13, λ real. (open-15, λ shut. (open-16, λ times. (open-17, λ live. (open-18 eight, λ none. tt)))))
+  open-agrees eight = open-13 and λ _. open-15 and λ _. open-16 and λ _. open-17 and λ _. open-18 eight and λ _. tt
 
 -- ---- the own ptt-id, and a seat just opened
 
@@ -165,9 +165,15 @@ own-only n call _ (keys (inl e)) = rw e
 own-only n call _ (keys (inr e)) = rw e
 own-only n call _ (listens two three) = simp (ne-eqb call 2 two, ne-eqb call 3 three)
 
-pub just-opened : (r : Request) (call : ℕ) → JustOpened r call (openedSeat call (r .period) (r .multiplier) (r .ssrc))
+coded : (c : CallType) → Coded c (callCode c)
+coded Idle = idle
+coded RxOnly = rx-only
+coded TxRx = tx-rx
+coded Coupling = coupling
+
+pub just-opened : (r : Request) → JustOpened r (openedSeat (callCode (r .call)) (r .period) (r .multiplier) (r .ssrc))
 unfolding openedSeat
-just-opened r call = record { is-open = refl; call-is = refl; period = refl; multiplier = refl; ssrc = refl; heard-nothing = refl; all-zero = refl }
+just-opened r = record { is-open = refl; call = coded (r .call); period = refl; multiplier = refl; ssrc = refl; heard-nothing = refl; all-zero = refl }
 
 -- ---- 23 of the event
 

@@ -7,7 +7,8 @@ use mathlib.Core.Logic.{_⊎_}
 use Rattle.record.specs.Record.{seatOf, lesson}
 use Rattle.record.specs.declared.seat.Seat.{Seat}
 use Rattle.record.specs.declared.whole.Bench.{Bench}
-use Rattle.seats.specs.declared.opening.CallType.the-variants.{Coupling}
+use Rattle.seats.specs.declared.opening.CallType.{CallType}
+use Rattle.seats.specs.declared.opening.CallType.the-variants.{Idle, RxOnly, TxRx, Coupling}
 use Rattle.seats.specs.declared.opening.Request.{Request}
 
 -- "13 | seat not 1 to 8"
@@ -40,10 +41,17 @@ pub data OwnId (n call : ℕ) : (id : ℕ) → Type 0 where
   keys : (call ≡ 2) ⊎ (call ≡ 3) → OwnId n call n
   listens : (call ≡ 2 → ⊥) → (call ≡ 3 → ⊥) → OwnId n call 0
 
+-- "a call type (Radio-Idle, Radio-Rxonly, Radio-TxRx, Coupling)", and the code that a seat keeps of it
+pub data Coded : CallType → (code : ℕ) → Type 0 where
+  idle : Coded Idle 0
+  rx-only : Coded RxOnly 1
+  tx-rx : Coded TxRx 2
+  coupling : Coded Coupling 3
+
 -- "A seat just opened has heard nothing; its last field counts as all zero without items."
-pub record JustOpened (r : Request) (call : ℕ) (s : Seat) : Type 0 where
+pub record JustOpened (r : Request) (s : Seat) : Type 0 where
   pub is-open : s .opened ≡ true
-  pub call-is : s .call ≡ call
+  pub call : Coded (r .call) (s .call)
   pub period : s .period ≡ r .period
   pub multiplier : s .multiplier ≡ r .multiplier
   pub ssrc : s .ssrc ≡ r .ssrc

@@ -75,6 +75,20 @@ heard-coupling false s m e = e
 ticked-coupling : (ms : ℕ) (s : Seat) → holdsCoupling (tickedSeat ms s) ≡ true → holdsCoupling s ≡ true
 ticked-coupling ms s = ticked-cases (λ t. holdsCoupling t ≡ true → holdsCoupling s ≡ true) ms s (λ e. cc) (λ is-open younger e. e) (λ e. e)
 
+-- ---- the order
+
+pub order-kept : (b : Bench) (c : Call) → (length (benchAfter b c .order) ≡ length (b .order)) × ((test : ℕ → Bool) → howMany test (benchAfter b c .order) ≡ howMany test (b .order))
+unfolding openedBench closedBench heardBench tickedBench sentBench reportedBench
+order-kept b (packet n p) = (length-order-after n _ _ (b .order), many-order-after n _ _ (b .order))
+order-kept b (opening n r) = (refl, λ m. refl)
+order-kept b (closing n) = (refl, λ m. refl)
+order-kept b (tick ms timestamp room) = (refl, λ m. refl)
+order-kept b (report n timestamp sound room) = (refl, λ m. refl)
+order-kept b (received signals level) = (refl, λ m. refl)
+order-kept b (transmitter healthy) = (refl, λ m. refl)
+order-kept b (side standby) = (refl, λ m. refl)
+order-kept b (totals n) = (refl, λ m. refl)
+
 module _ (b : Bench) (kept : Kept b) where
   sequences-kept : (c : Call) → InRange c → (length (benchAfter b c .sequences) ≡ 8) × ((i : ℕ) → getD (benchAfter b c .sequences) i 0 < 65536)
   unfolding openedBench closedBench heardBench tickedBench sentBench reportedBench
@@ -90,20 +104,6 @@ module _ (b : Bench) (kept : Kept b) where
   sequences-kept (transmitter healthy) fits = (kept .eight-sequences, kept .sequences-fit)
   sequences-kept (side standby) fits = (kept .eight-sequences, kept .sequences-fit)
   sequences-kept (totals n) fits = (kept .eight-sequences, kept .sequences-fit)
-
-  -- ---- the order
-
-  order-kept : (c : Call) → (length (benchAfter b c .order) ≡ length (b .order)) × ((test : ℕ → Bool) → howMany test (benchAfter b c .order) ≡ howMany test (b .order))
-  unfolding openedBench closedBench heardBench tickedBench sentBench reportedBench
-  order-kept (packet n p) = (length-order-after n _ _ (b .order), many-order-after n _ _ (b .order))
-  order-kept (opening n r) = (refl, λ m. refl)
-  order-kept (closing n) = (refl, λ m. refl)
-  order-kept (tick ms timestamp room) = (refl, λ m. refl)
-  order-kept (report n timestamp sound room) = (refl, λ m. refl)
-  order-kept (received signals level) = (refl, λ m. refl)
-  order-kept (transmitter healthy) = (refl, λ m. refl)
-  order-kept (side standby) = (refl, λ m. refl)
-  order-kept (totals n) = (refl, λ m. refl)
 
   -- ---- each seat
 
@@ -186,8 +186,8 @@ module _ (b : Bench) (kept : Kept b) where
         eight-seats = as-many-seats b c ∙ kept .eight-seats;
         eight-sequences = sequences-kept c fits .0;
         sequences-fit = sequences-kept c fits .1;
-        order-of-eight = order-kept c .0 ∙ kept .order-of-eight;
-        order-counts = λ n. order-kept c .1 (λ m. eqb m n) ∙ kept .order-counts n;
+        order-of-eight = order-kept b c .0 ∙ kept .order-of-eight;
+        order-counts = λ n. order-kept b c .1 (λ m. eqb m n) ∙ kept .order-counts n;
         each-seat = λ n. subst₂ (λ (setup : Setup) (s : Seat). SeatKept setup n s) (sym (same-setup b c)) (sym (seat n)) (seat-kept c fits none n);
         one-coupling = λ m n e f. coupling-kept c none m n (sym (ap holdsCoupling (seat m)) ∙ e) (sym (ap holdsCoupling (seat n)) ∙ f);
         single-on-main = λ e. main-kept c fits none (sym (ap (λ (setup : Setup). kindOf (setup .kind)) (same-setup b c)) ∙ e);

@@ -78,7 +78,7 @@ take-bytes (suc n) [] h i = omega arith
 take-bytes (suc n) (b ∷ l) h zero = h 0
 take-bytes (suc n) (b ∷ l) h (suc i) = take-bytes n l (λ j. h (suc j)) i
 
-drop-bytes : (n : ℕ) (l : List ℕ) → Bytes l → Bytes (drop n l)
+pub drop-bytes : (n : ℕ) (l : List ℕ) → Bytes l → Bytes (drop n l)
 drop-bytes n l h i = rw (getD-drop n l i 0) (h (n + i))
 
 -- ---- the items under X
@@ -109,7 +109,7 @@ module _ (d : Direction) (f : ℕ) (bs : List ℕ) (small : Bytes bs) where
       (zeros-are bs h ∙ ap (λ (n : ℕ). replicate n 0) none, sym (eqb-true (x f) 0 e))
   under-x false e h = (run-back (itemsIn bs) refl h .0, ap bit (run-back (itemsIn bs) refl h .1) ∙ sym (x-one e))
 
-  items-under-x : itemsAllowed d (x f) bs ≡ true
+  pub items-under-x : itemsAllowed d (x f) bs ≡ true
       → (bs ≡ itemBytes is ++ replicate (length bs - length (itemBytes is)) 0) × (bit (someItem is) ≡ x f)
   unfolding itemsAllowed itemsOf
   items-under-x h = under-x (eqb (x f) 0) refl h

@@ -44,14 +44,14 @@ kind-narrow _ _ ten-ms = omega arith
 kind-narrow _ _ twenty-ms = omega arith
 kind-narrow _ _ thirty-ms = omega arith
 
-payload-fits : (k n : ℕ) → Carries k n → payloadAllowed k n ≡ true
+pub payload-fits : (k n : ℕ) → Carries k n → payloadAllowed k n ≡ true
 unfolding payloadAllowed
 payload-fits _ _ r2s = refl
 payload-fits _ _ ten-ms = refl
 payload-fits _ _ twenty-ms = refl
 payload-fits _ _ thirty-ms = refl
 
-carried : (k n : ℕ) → (eqb k audioType || eqb k r2sType) ≡ true → payloadAllowed k n ≡ true → Carries k n
+pub carried : (k n : ℕ) → (eqb k audioType || eqb k r2sType) ≡ true → payloadAllowed k n ≡ true → Carries k n
 unfolding payloadAllowed
 carried k n known fine = by-kind (eqb k 8) refl known fine
   where
@@ -76,7 +76,7 @@ stands-allowed d _ (main _) = refl
 stands-allowed d _ (standby _) = refl
 stands-allowed d _ (stepped-over _ v h) = refl
 
-all-allowed : (d : Direction) (is : List Item) → AllStand d is → allAllowed d is ≡ true
+pub all-allowed : (d : Direction) (is : List Item) → AllStand d is → allAllowed d is ≡ true
 unfolding allAllowed
 all-allowed d [] h = refl
 all-allowed d (i ∷ is) h = simp (stands-allowed d i (h .0), all-allowed d is (h .1))
@@ -91,12 +91,12 @@ unfolding hasType
 has-none t [] e = tt
 has-none t (i ∷ is) e = (eqb-false (i .type) t (or-left (eqb (i .type) t) _ e), has-none t is (or-right (eqb (i .type) t) _ e))
 
-none-twice : (is : List Item) → EachOnce is → noTypeTwice is ≡ true
+pub none-twice : (is : List Item) → EachOnce is → noTypeTwice is ≡ true
 unfolding noTypeTwice
 none-twice [] h = refl
 none-twice (i ∷ is) h = simp (none-has (i .type) is (h .0), none-twice is (h .1))
 
-each-once : (is : List Item) → noTypeTwice is ≡ true → EachOnce is
+pub each-once : (is : List Item) → noTypeTwice is ≡ true → EachOnce is
 unfolding noTypeTwice
 each-once [] e = tt
 each-once (i ∷ is) e =
