@@ -59,7 +59,7 @@ pub record Accounts : Type 0 where
   pub heard-alone : (setup : Setup) (run : List Call) (n : ℕ) → let s = seatAfterRun n setup run in
       s .opened ≡ true → s .totals .heard ≡ length (historyOf n setup run)
   -- The call tells these numbers
-  pub told : (setup : Setup) (run : List Call) (n heard missing : ℕ) → keeping (after keeping (freshBench setup) run) (totals n) .answer ≡ accepted (totalled heard missing)
+  pub call-tells : (setup : Setup) (run : List Call) (n heard missing : ℕ) → keeping (after keeping (freshBench setup) run) (totals n) .answer ≡ accepted (totalled heard missing)
       → (pos (heard + missing) ≡ account (historyOf n setup run)) × (heard ≡ length (historyOf n setup run))
   -- and leaves every bench as it was.
-  pub only-told : (b : Bench) (n : ℕ) → keeping b (totals n) .bench ≡ b
+  pub bench-left : (b : Bench) (n : ℕ) → keeping b (totals n) .bench ≡ b

@@ -29,5 +29,5 @@ pub record AirKept : Type 0 where
   pub by-accepted : (b : Bench) (c : Call) → NoCase (refusalsOf b c) → NoQuestion c → AirRight (keeping b c .bench)
   pub by-report : (b : Bench) (n timestamp : ℕ) (sound : List ℕ) (room : ℕ) → keeping b (report n timestamp sound room) .bench .air ≡ b .air
   -- "and let reports read them": a report that is written tells what the record says (reportOf)
-  pub told : (b : Bench) (n timestamp : ℕ) (sound bytes : List ℕ) (room : ℕ)
+  pub report-tells : (b : Bench) (n timestamp : ℕ) (sound bytes : List ℕ) (room : ℕ)
       → keeping b (report n timestamp sound room) .answer ≡ accepted (written bytes) → bytes ≡ encode (b .setup .ext) (fromRx (reportOf b n timestamp)) sound

@@ -22,9 +22,9 @@ laid csrc kind ext words m is sound =
     ++ bytes16 (fieldOf m is) ++ itemBytes is ++ replicate (4 * words - (2 + length (itemBytes is))) 0
     ++ sound
 
--- Words that hold the items, and no more than 01 allows.
-abbrev pub Holds : (words : ℕ) → List Item → Type 0
-Holds words is = (2 + length (itemBytes is) ≤ 4 * words) × (words ≤ 15)
+-- Words that have room for the items, and no more than 01 allows.
+abbrev pub RoomFor : (words : ℕ) → List Item → Type 0
+RoomFor words is = (2 + length (itemBytes is) ≤ 4 * words) × (words ≤ 15)
 
 unfoldable pub csrcWords : List ℕ → List ℕ
 csrcWords p = partOf headLength (extensionAt p) p

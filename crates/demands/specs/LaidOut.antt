@@ -27,7 +27,7 @@ use Rattle.demands.specs.RoundTrip.{Narrow}
 -- "CSRC count CC (0 to 15)", "CC words of CSRC"
 pub record CsrcWords (csrc : List ℕ) : Type 0 where
   pub count : ℕ
-  pub most : count ≤ 15
+  pub count-most : count ≤ 15
   pub long : length csrc ≡ 4 * count
 
 -- "payload type 8 (audio) or 123 (R2S)"; "The rest is payload: for 123 none; for 8 exactly 80, 160 or 240 bytes (10, 20, 30 ms)."
@@ -45,7 +45,7 @@ SaidInField direction.Rx m = Unit {0}
 -- "method in the low 3: 0 RSSI, 1 AGC, 2 C/N, 3 PSD. With RSSI quality is 0 to 15, else 0 to 31"
 pub record SqiValue (quality method : ℕ) : Type 0 where
   pub known : method ≤ 3
-  pub most : quality ≤ 31
+  pub quality-most : quality ≤ 31
   pub with-rssi : method ≡ 0 → quality ≤ 15
 
 -- The table of items, and 02: "one type 4 item of any length 0 to 15 .. in TX and RX alike".
@@ -84,7 +84,7 @@ AllTold d (i ∷ is) stand k = Told d i (stand .0) k × AllTold d is (stand .1) 
 
 -- A message keeps what its items tell, wherever they stand, and nothing else.
 pub record Keeps (d : Direction) (is : List Item) (stand : AllStand d is) (k : Items) : Type 0 where
-  pub told : AllTold d is stand k
+  pub tells-all : AllTold d is stand k
   pub no-sqi : NoneOf 1 is → k .sqi ≡ sqi.Absent
   pub no-climax : NoneOf 2 is → k .climax ≡ climax.Absent
   pub no-side : NoneOf 5 is → k .side ≡ side.Absent
@@ -104,7 +104,7 @@ pub record MayStand (d : Direction) (csrc : List ℕ) (kind ext words : ℕ) (m 
   pub keeps : Keeps d is items-stand (m .items)
   -- "word count W (2 bytes), 1 to 15": any, from the fewest that hold the items
   pub fewest : fewestWords is ≤ words
-  pub most : words ≤ 15
+  pub words-most : words ≤ 15
 
 -- A packet that is laid out of such parts.
 pub record LaidFrom (d : Direction) (ext : ℕ) (p : List ℕ) (m : Message) : Type 0 where

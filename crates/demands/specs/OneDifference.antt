@@ -25,16 +25,16 @@ abbrev pub ticks : (ms : ℕ) → Call
 ticks ms = tick ms 0 mostSent
 
 -- these seats closed and those due, each of which gets its report with that number
-abbrev pub told : (closed due : List ℕ) → (sequence : ℕ) → Answer Said
-told closed due sequence =
+abbrev pub names : (closed due : List ℕ) → (sequence : ℕ) → Answer Said
+names closed due sequence =
     accepted (ticked (map (among closed) seatNumbers) (map (among due) seatNumbers) (map (λ n. cond (among due n) (quietReport sequence) []) seatNumbers))
 
 pub record OneDifference : Type 0 where
   -- two ticks of 200: both seats are due, then seat 1 is closed and seat 2 due
-  pub first : answer run (ticks 200) ≡ told [] (1 ∷ 2 ∷ []) 1
-  pub second : answer (run ++ ticks 200 ∷ []) (ticks 200) ≡ told (1 ∷ []) (2 ∷ []) 2
+  pub first : answer run (ticks 200) ≡ names [] (1 ∷ 2 ∷ []) 1
+  pub second : answer (run ++ ticks 200 ∷ []) (ticks 200) ≡ names (1 ∷ []) (2 ∷ []) 2
   -- one of 400: that seat 1 was due is not told; seat 2, due in both, is told due once
-  pub merged : answer run (ticks 400) ≡ told (1 ∷ []) (2 ∷ []) 1
+  pub merged : answer run (ticks 400) ≡ names (1 ∷ []) (2 ∷ []) 1
   -- and the same bench, but that the numbers of both seats ran one further in two ticks
   pub merged-numbers : after keeping (freshBench lab) (run ++ ticks 400 ∷ []) .sequences ≡ 1 ∷ 2 ∷ replicate 6 0
   pub same-but-numbers : after keeping (freshBench lab) (run ++ ticks 200 ∷ ticks 200 ∷ [])

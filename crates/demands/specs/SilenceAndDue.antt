@@ -29,16 +29,16 @@ stopped = record { runs = false; period = 0; multiplier = 0; quiet = 0; age = 0 
 abbrev pub started : Request → Clock
 started r = record { runs = true; period = r .period; multiplier = r .multiplier; quiet = 0; age = 0 }
 
-abbrev pub noted : Clock → (quiet age : ℕ) → Clock
-noted k quiet age = record { runs = k .runs; period = k .period; multiplier = k .multiplier; quiet = quiet; age = age }
+abbrev pub clockWith : Clock → (quiet age : ℕ) → Clock
+clockWith k quiet age = record { runs = k .runs; period = k .period; multiplier = k .multiplier; quiet = quiet; age = age }
 
 -- One accepted call further. "Opening and each accepted packet set a seat's time left to period times multiplier ms. A tick takes its ms from that; the seat is closed if
 -- nothing is left."
 abbrev pub clockAfter : (n : ℕ) → Clock → Call → Clock
 clockAfter n k (opening m r) = cond (eqb n m) (started r) k
 clockAfter n k (closing m) = cond (eqb n m) stopped k
-clockAfter n k (packet m p) = cond (eqb n m) (noted k 0 (k .age)) k
-clockAfter n k (tick ms timestamp room) = cond (leb (k .period * k .multiplier) (k .quiet + ms)) stopped (noted k (k .quiet + ms) (k .age + ms))
+clockAfter n k (packet m p) = cond (eqb n m) (clockWith k 0 (k .age)) k
+clockAfter n k (tick ms timestamp room) = cond (leb (k .period * k .multiplier) (k .quiet + ms)) stopped (clockWith k (k .quiet + ms) (k .age + ms))
 clockAfter n k (report m timestamp sound room) = k
 clockAfter n k (received signals level) = k
 clockAfter n k (transmitter healthy) = k

@@ -16,7 +16,7 @@ use Rattle.bench.specs.Step.{packet, keeping}
 use Rattle.packet.specs.declared.message.Direction.{Direction}
 use Rattle.packet.specs.declared.message.Message.{Message}
 use Rattle.record.specs.declared.whole.Bench.{Bench}
-use Rattle.demands.specs.Inversion.{laid, Holds, csrcWords}
+use Rattle.demands.specs.Inversion.{laid, RoomFor, csrcWords}
 use Rattle.demands.specs.RoundTrip.{Narrow}
 use Rattle.demands.specs.Rewrite.{WithoutDdc}
 
@@ -57,10 +57,10 @@ pub record SteppedOver : Type 0 where
   -- a packet with its own items, in its own words, is the packet itself
   pub itself : (p : List ℕ) → IsRead p → relaid (wordCount p) (itemsHere p) p ≡ p
   -- taken out: the packet is alike without its type 4 item, in any number of words that holds the others,
-  pub taken-out : (p : List ℕ) (words : ℕ) → IsRead p → Holds words (others (itemsHere p)) → Alike p words (others (itemsHere p))
+  pub taken-out : (p : List ℕ) (words : ℕ) → IsRead p → RoomFor words (others (itemsHere p)) → Alike p words (others (itemsHere p))
   -- as its own number of words does
-  pub own-words : (p : List ℕ) → IsRead p → Holds (wordCount p) (others (itemsHere p))
+  pub own-words : (p : List ℕ) → IsRead p → RoomFor (wordCount p) (others (itemsHere p))
   -- put in: a packet that has none is alike with one of any length 0 to 15, anywhere among its items
   pub put-in : (p : List ℕ) (words : ℕ) (before after : List Item) (value : List ℕ) → IsRead p → WithoutDdc p → itemsHere p ≡ before ++ after
-      → length value ≤ 15 → Holds words (before ++ ddc value ∷ after) → Alike p words (before ++ ddc value ∷ after)
+      → length value ≤ 15 → RoomFor words (before ++ ddc value ∷ after) → Alike p words (before ++ ddc value ∷ after)
   pub never-written : NeverWritten

@@ -12,8 +12,8 @@ abbrev pub stepAt : (q : ℕ) → ℤ
 stepAt q = negℤ (pos 1000) +ℤ pos (20 * q)
 
 pub record Steps : Type 0 where
-  -- For q from 1 to 15 the quality is q or more exactly if the level is -1000 + 20 q or more. (leZ tests "at most" of signed
+  -- For q from 1 to 15 the quality is q or more exactly if the level is -1000 + 20 q or more. (leZ says "at most" of signed
   -- numbers. Quality 0 has no step: it is every level below -980.)
   pub fall : (level : ℤ) (q : ℕ) → 1 ≤ q → q ≤ 15 → (q ≤ quality level) ↔ (leZ (stepAt q) level ≡ true)
   -- and it is never more than 15
-  pub most : (level : ℤ) → quality level ≤ 15
+  pub never-above : (level : ℤ) → quality level ≤ 15

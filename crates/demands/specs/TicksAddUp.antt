@@ -73,7 +73,7 @@ pub record ZeroChangesNothing (b : Bench) (timestamp : ℕ) (buffer : List ℕ) 
 
 pub record TicksAddUp : Type 0 where
   -- Of any bench, whatever it holds: what a tick answers that is not refused, and that two of them may be merged.
-  pub told : (b : Bench) (t : Tick) → NotRefused t
+  pub tick-names : (b : Bench) (t : Tick) → NotRefused t
       → keeping b (called t) .answer ≡ accepted (ticked (silentSeats b (t .ms)) (dueSeats b (t .ms)) (records b (t .ms) (t .timestamp)))
   pub two-ticks : (b : Bench) (first second merged : Tick) → NoneRefused (first ∷ second ∷ merged ∷ [])
       → first .ms + second .ms ≡ merged .ms → MayMerge b first second merged

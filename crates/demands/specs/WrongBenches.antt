@@ -16,8 +16,8 @@ use Rattle.demands.specs.Apart.{withoutLessons, pttOf, Apart}
 use Rattle.demands.specs.LessonsSeen.{lab, enters, keys, asked, quietReport, sounds, silent, answer}
 
 -- "For every input each public function's promise leaves one possible answer, one next state": those of keeping.
-abbrev pub Keeps : Machine → Type 0
-Keeps machine = (b : Bench) (c : Call) → machine b c ≡ keeping b c
+abbrev pub Obeys : Machine → Type 0
+Obeys machine = (b : Bench) (c : Call) → machine b c ≡ keeping b c
 
 -- The same of one call after a run: the promise on the answer, and the promise on the next state.
 abbrev pub labAfter : List Call → Bench
@@ -123,6 +123,6 @@ pub record WrongBenches : Type 0 where
   -- "missing is distance minus 1": none before the first packet, one between 1 and 3
   pub not-inventing : (count : ℕ) → Answers (wrong (inventing count)) entered (keys 1 normal 1) → Answers (wrong (inventing count)) spoken (keys 1 normal 3) → ⊥
   -- "Demand 2 shuts out each"
-  pub shut-out : (w : WrongBench) → Keeps (wrong w) → ⊥
+  pub shut-out : (w : WrongBench) → Obeys (wrong w) → ⊥
   -- "Several would satisfy demand 3 taken alone": each does
   pub apart-alone : (w : WrongBench) → ApartAlone (wrong w)

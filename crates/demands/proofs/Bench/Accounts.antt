@@ -191,9 +191,9 @@ module _ (setup : Setup) (run : List Call) (n : ℕ) where
   its-sums : SumsOpen (historyOf n setup run) (seatAfterRun n setup run)
   its-sums = sums-run n (freshBench setup) run [] (unfold freshBench in refl) at-start
 
-  told : (heard missing : ℕ) → keeping (after keeping (freshBench setup) run) (totals n) .answer ≡ accepted (totalled heard missing)
+  call-tells : (heard missing : ℕ) → keeping (after keeping (freshBench setup) run) (totals n) .answer ≡ accepted (totalled heard missing)
       → (pos (heard + missing) ≡ account (historyOf n setup run)) × (heard ≡ length (historyOf n setup run))
-  told heard missing e =
+  call-tells heard missing e =
       let s = seatAfterRun n setup run in
       let was = was-accepted (after keeping (freshBench setup) run) (totals n) (totalled heard missing) e in
       let sums = its-sums (seat-accepted n (s .opened) (was .0) .was-open) in
@@ -208,6 +208,6 @@ accounts =
       for-instance = refl;
       heard-and-missing = λ setup run n up. its-sums setup run n up .total;
       heard-alone = λ setup run n up. its-sums setup run n up .many;
-      told = told;
-      only-told = λ b n. after-call (λ (x : Bench). x ≡ b) b (totals n) refl (λ none. refl);
+      call-tells = call-tells;
+      bench-left = λ b n. after-call (λ (x : Bench). x ≡ b) b (totals n) refl (λ none. refl);
     }

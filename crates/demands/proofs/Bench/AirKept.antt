@@ -46,14 +46,14 @@ by-report : (b : Bench) (n timestamp : ℕ) (sound : List ℕ) (room : ℕ) → 
 by-report b n timestamp sound room =
     after-call (λ (x : Bench). x .air ≡ b .air) b (report n timestamp sound room) refl (λ none. unfold reportedBench in refl)
 
-was-written : (answer : Answer ℕ) (told bytes : List ℕ) → mapped (λ (long : ℕ). written told) answer ≡ accepted (written bytes) → bytes ≡ told
-was-written (accepted long) told bytes e = cc
-was-written (refused n cause) told bytes e = absurd (never (written bytes) n cause (sym e))
+was-written : (answer : Answer ℕ) (sent bytes : List ℕ) → mapped (λ (long : ℕ). written sent) answer ≡ accepted (written bytes) → bytes ≡ sent
+was-written (accepted long) sent bytes e = cc
+was-written (refused n cause) sent bytes e = absurd (never (written bytes) n cause (sym e))
 
-told : (b : Bench) (n timestamp : ℕ) (sound bytes : List ℕ) (room : ℕ)
+report-tells : (b : Bench) (n timestamp : ℕ) (sound bytes : List ℕ) (room : ℕ)
     → keeping b (report n timestamp sound room) .answer ≡ accepted (written bytes) → bytes ≡ encode (b .setup .ext) (fromRx (reportOf b n timestamp)) sound
 unfolding reportBytes
-told b n timestamp sound bytes room e = was-written (reportSaid b n timestamp sound room) _ bytes (sym (report-reads b n timestamp sound room) ∙ e)
+report-tells b n timestamp sound bytes room e = was-written (reportSaid b n timestamp sound room) _ bytes (sym (report-reads b n timestamp sound room) ∙ e)
 
 pub air-kept : AirKept
 air-kept =
@@ -63,5 +63,5 @@ air-kept =
       in-every-run = λ setup cs. after-run AirRight air-by-call (freshBench setup) cs (air-at-start setup);
       by-accepted = by-accepted;
       by-report = by-report;
-      told = told;
+      report-tells = report-tells;
     }

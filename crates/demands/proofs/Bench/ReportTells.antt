@@ -93,7 +93,7 @@ one : (b : Bench) → Reached b → (n timestamp : ℕ) (sound : List ℕ) (room
     → keeping b (report n timestamp sound room) .answer ≡ accepted (written bytes) → IsReport b n timestamp sound bytes
 one b known n timestamp sound room bytes time-fits e =
     is-report b (known .right) (subst (Shows b) (sym (known .right)) (shows b (known .placed))) (known .kept) (known .fits) n timestamp sound room bytes time-fits
-    (was-accepted b (report n timestamp sound room) (written bytes) e .0) (air-kept .told b n timestamp sound bytes room e)
+    (was-accepted b (report n timestamp sound room) (written bytes) e .0) (air-kept .report-tells b n timestamp sound bytes room e)
 
 -- ---- the reports of a tick
 
@@ -211,9 +211,9 @@ module _ (b : Bench) (known : Reached b) where
       → keeping b (tick ms timestamp room) .answer ≡ accepted (ticked closed due sent) → DueAlone due (b .sequences) (keeping b (tick ms timestamp room) .bench .sequences)
   unfolding sentBench tickedBench
   due-moved ms timestamp room closed due sent e =
-      let told = was-accepted b (tick ms timestamp room) (ticked closed due sent) e in
-      let are : dueSeats b ms ≡ due = cc (told .1) in
-      subst (DueAlone due (b .sequences)) (sym (ap (λ (x : Bench). x .sequences) (accepted-bench b (tick ms timestamp room) (told .0)) ∙ ap (λ (l : List Bool). oneFurther l (b .sequences)) are))
+      let passed = was-accepted b (tick ms timestamp room) (ticked closed due sent) e in
+      let are : dueSeats b ms ≡ due = cc (passed .1) in
+      subst (DueAlone due (b .sequences)) (sym (ap (λ (x : Bench). x .sequences) (accepted-bench b (tick ms timestamp room) (passed .0)) ∙ ap (λ (l : List Bool). oneFurther l (b .sequences)) are))
       (due-alone due (b .sequences) (known .kept .eight-sequences) (known .kept .sequences-fit))
 
 -- ---- every run

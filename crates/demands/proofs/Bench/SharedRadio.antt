@@ -134,7 +134,7 @@ unfolding reportSaid reportBytes
 zero-read b right n timestamp sound room bytes shared narrow e =
     let none = was-accepted b (report n timestamp sound room) (written bytes) e .0 in
     let back = reports-read-back b right n timestamp sound room _ narrow (accepts _ (reportRefusals b n timestamp sound room) none) in
-    (reportOf b n timestamp, ap (readRx (b .setup .ext)) (air-kept .told b n timestamp sound bytes room e) ∙ back .0, zero-told b n timestamp shared)
+    (reportOf b n timestamp, ap (readRx (b .setup .ext)) (air-kept .report-tells b n timestamp sound bytes room e) ∙ back .0, zero-told b n timestamp shared)
 
 pub shared-radio : SharedRadio
 shared-radio =

@@ -25,13 +25,13 @@ use Rattle.seats.specs.declared.opening.Request.{Request}
 use Rattle.demands.specs.SeatAfter.{seatAfter, seatThrough}
 use Rattle.seats.specs.InWords.{JustOpened}
 use Rattle.seats.proofs.InWords as opening-in-words
-use Rattle.demands.specs.SilenceAndDue.{Clock, stopped, started, noted, clockAfter, clockThrough, clockOf, TickTells, SilenceAndDue}
+use Rattle.demands.specs.SilenceAndDue.{Clock, stopped, started, clockWith, clockAfter, clockThrough, clockOf, TickTells, SilenceAndDue}
 use Rattle.demands.proofs.Demand1.Calls.{was-accepted}
 use Rattle.demands.proofs.Bench.SeatAfter.{seat-after, seat-story}
 
 -- ---- a seat and its clock
 
--- what an open seat keeps, against what was noted
+-- what an open seat keeps, against what its clock notes
 record Timed (s : Seat) (k : Clock) : Type 0 where
   period : s .period ≡ k .period
   multiplier : s .multiplier ≡ k .multiplier
@@ -69,7 +69,7 @@ opened-times r =
     nothing-passed : (k : ℕ) → k + 0 ≡ k
     nothing-passed k = omega arith
 
-heard-times : (s : Seat) (m : Tx) (k : Clock) → Times s k → Times (heardSeat s m) (noted k 0 (k .age))
+heard-times : (s : Seat) (m : Tx) (k : Clock) → Times s k → Times (heardSeat s m) (clockWith k 0 (k .age))
 unfolding heardSeat
 heard-times s m k old =
     record {
@@ -90,7 +90,7 @@ same-end left quiet ms whole e = by-case (leb left ms) refl
     by-case true h = sym (le-leb whole (quiet + ms) (let l = leb-true left ms h in omega arith))
     by-case false h = sym (lt-leb whole (quiet + ms) (let l = leb-false left ms h in omega arith))
 
-ticked-times : (ms : ℕ) (s : Seat) (k : Clock) → Times s k → Times (tickedSeat ms s) (cond (leb (k .period * k .multiplier) (k .quiet + ms)) stopped (noted k (k .quiet + ms) (k .age + ms)))
+ticked-times : (ms : ℕ) (s : Seat) (k : Clock) → Times s k → Times (tickedSeat ms s) (cond (leb (k .period * k .multiplier) (k .quiet + ms)) stopped (clockWith k (k .quiet + ms) (k .age + ms)))
 unfolding tickedSeat
 ticked-times ms s k old = by-tests (s .opened) (leb (k .period * k .multiplier) (k .quiet + ms)) refl refl
   where
@@ -98,7 +98,7 @@ ticked-times ms s k old = by-tests (s .opened) (leb (k .period * k .multiplier) 
     younger left quiet whole h e = omega arith
 
     by-tests : (opened over : Bool) → s .opened ≡ opened → leb (k .period * k .multiplier) (k .quiet + ms) ≡ over
-        → Times (cond opened (cond (nothingLeft ms s) closedSeat (aged ms s)) s) (cond over stopped (noted k (k .quiet + ms) (k .age + ms)))
+        → Times (cond opened (cond (nothingLeft ms s) closedSeat (aged ms s)) s) (cond over stopped (clockWith k (k .quiet + ms) (k .age + ms)))
     by-tests true true e h =
         let t = old .timed (sym (old .runs) ∙ e) in
         rw (same-end (s .left) (k .quiet) ms (k .period * k .multiplier) (t .left) ∙ h) shut-times
@@ -130,7 +130,7 @@ call-times (closing m) n s k old = by-seat (eqb n m)
     by-seat false = old
 call-times (packet m p) n s k old = by-seat (eqb n m)
   where
-    by-seat : (t : Bool) → Times (cond t (heardSeat s (messageIn p)) s) (cond t (noted k 0 (k .age)) k)
+    by-seat : (t : Bool) → Times (cond t (heardSeat s (messageIn p)) s) (cond t (clockWith k 0 (k .age)) k)
     by-seat true = heard-times s (messageIn p) k old
     by-seat false = old
 call-times (tick ms timestamp room) n s k old = ticked-times ms s k old

@@ -36,8 +36,8 @@ use Rattle.demands.proofs.Demand1.Calls.{saidBy, call-answer, accepted-
 
 -- a tick that is not refused
 module _ (b : Bench) (t : Tick) (fine : NotRefused t) where
-  told : keeping b (called t) .answer ≡ accepted (ticked (silentSeats b (t .ms)) (dueSeats b (t .ms)) (records b (t .ms) (t .timestamp)))
-  told = call-answer b (called t) ∙ accepts (saidBy b (called t)) (refusalsOf b (called t)) fine
+  tick-names : keeping b (called t) .answer ≡ accepted (ticked (silentSeats b (t .ms)) (dueSeats b (t .ms)) (records b (t .ms) (t .timestamp)))
+  tick-names = call-answer b (called t) ∙ accepts (saidBy b (called t)) (refusalsOf b (called t)) fine
 
   after-tick : after keeping b (called t ∷ []) ≡ aired (sentBench b (t .ms))
   unfolding after
@@ -180,7 +180,7 @@ module _ (b : Bench) (timestamp : ℕ) (buffer : List ℕ) (enough : mostSent �
       record {
         outcome =
             ap₂ (λ (answer : Answer Said) (next : Bench). record { answer = answer; bench = next })
-            (told b zeroTick fine ∙ rw (none-closed b eight in-time, none-due b eight in-time, no-records b eight in-time timestamp))
+            (tick-names b zeroTick fine ∙ rw (none-closed b eight in-time, none-due b eight in-time, no-records b eight in-time timestamp))
             (after-tick b zeroTick fine ∙ ap aired (same-bench b eight in-time) ∙ ap (withAir b) (sym right));
         bytes =
             ap (λ (bytes : List ℕ). filled (judged (tickRefusals 0 (length buffer)) (length bytes)) bytes buffer) (nothing-sent b eight in-time timestamp)
@@ -198,7 +198,7 @@ module _ (b : Bench) (timestamp : ℕ) (buffer : List ℕ) (enough : mostSent �
       (sym (due-flag b 0 n) ∙ ap (λ (set : List Bool). isIn set n) (nobody .1) ∙ none-in n)
     where
       nobody-told : accepted (ticked (silentSeats b 0) (dueSeats b 0) (records b 0 timestamp)) ≡ accepted (ticked (noSeats .closed) (noSeats .due) (replicate 8 []))
-      nobody-told = sym (told b zeroTick fine) ∙ ap (λ (o : Outcome). o .answer) (unchanged .outcome)
+      nobody-told = sym (tick-names b zeroTick fine) ∙ ap (λ (o : Outcome). o .answer) (unchanged .outcome)
 
       nobody : (silentSeats b 0 ≡ replicate 8 false) × (dueSeats b 0 ≡ replicate 8 false)
       nobody = (cc nobody-told, cc nobody-told)
@@ -214,7 +214,7 @@ zero b kept right timestamp buffer enough =
 pub ticks-add-up : TicksAddUp
 ticks-add-up =
     record {
-      told = told;
+      tick-names = tick-names;
       two-ticks = two-ticks;
       same-time = same-time;
       zero = zero;

@@ -32,13 +32,13 @@ sqi-allowed q m h = by-rssi (eqb m 0) refl
   where
     by-rssi : (t : Bool) → eqb m 0 ≡ t → leb m 3 && leb q (cond t 15 31) ≡ true
     by-rssi true e = simp (le-leb m 3 (h .known), le-leb q 15 (h .with-rssi (eqb-true m 0 e)))
-    by-rssi false e = simp (le-leb m 3 (h .known), le-leb q 31 (h .most))
+    by-rssi false e = simp (le-leb m 3 (h .known), le-leb q 31 (h .quality-most))
 
 sqi-may-stand : (q m : ℕ) → sqiAllowed q m ≡ true → SqiValue q m
 sqi-may-stand q m e =
     record {
       known = method-least q m e;
-      most = quality-least q m e;
+      quality-most = quality-least q m e;
       with-rssi = λ z. leb-true q 15 (sym (ap (λ (t : Bool). leb q (cond t 15 31)) (eq-eqb m 0 z)) ∙ and-right (leb m 3) _ e);
     }
 

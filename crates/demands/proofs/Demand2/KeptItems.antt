@@ -52,7 +52,7 @@ pub kept-are : (d : Direction) (is : List Item) (s : AllStand d is) (k : Items) 
 unfolding kept
 kept-are d is s k h =
     let same : kept is ≡ record { sqi = k .sqi; climax = k .climax; side = k .side } =
-    simp (sqi-told d is s k (h .told) (h .no-sqi), climax-told d is s k (h .told) (h .no-climax), side-told d is s k (h .told) (h .no-side)) in
+    simp (sqi-told d is s k (h .tells-all) (h .no-sqi), climax-told d is s k (h .tells-all) (h .no-climax), side-told d is s k (h .tells-all) (h .no-side)) in
     same
 
 -- ---- what is found among them is what they tell, where no type comes twice
@@ -101,7 +101,7 @@ pub keeps-found : (d : Direction) (is : List Item) (s : AllStand d is) → EachO
 unfolding kept
 keeps-found d is s once =
     record {
-      told = all-told d is s (kept is) once (inr refl) (inr refl) (inr refl);
+      tells-all = all-told d is s (kept is) once (inr refl) (inr refl) (inr refl);
       no-sqi = none-sqi is;
       no-climax = none-climax is;
       no-side = none-side is;

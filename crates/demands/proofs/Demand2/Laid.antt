@@ -18,7 +18,7 @@ use Rattle.packet.specs.declared.message.Direction.the-variants.{Tx, Rx}
 use Rattle.packet.specs.declared.message.SqiItem.the-variants as sqi
 use Rattle.packet.specs.declared.message.ClimaxItem.the-variants as climax
 use Rattle.packet.specs.declared.message.Message.{Message}
-use Rattle.demands.specs.Inversion.{laid, Holds}
+use Rattle.demands.specs.Inversion.{laid, RoomFor}
 use Rattle.demands.specs.RoundTrip.{Narrow}
 use Rattle.demands.specs.LaidOut.{SaidInField}
 use Rattle.demands.proofs.Demand2.ItemsBack.{AllWrite, list-back, allowed-back}
@@ -44,7 +44,7 @@ pub record Fit (csrc : List ℕ) (kind ext words : ℕ) (m : Message) (is : List
   pub ptt : m .ptt ≤ 7
   pub id : m .id ≤ 63
   pub writes : AllWrite is
-  pub room : Holds words is
+  pub room : RoomFor words is
 
 regroup : (h c e w f i z s : List ℕ) → h ++ c ++ (e ++ w ++ f ++ (i ++ z) ++ s) ≡ h ++ c ++ e ++ w ++ f ++ i ++ z ++ s
 regroup h c e w f i z s = simp append-assoc

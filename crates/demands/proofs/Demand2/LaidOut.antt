@@ -110,13 +110,13 @@ module _ (d : Direction) (csrc : List ℕ) (kind ext words : ℕ) (m : Message) 
   fit =
       record {
         whole = omega (arith, h .csrc-words .long);
-        few = omega (arith, h .csrc-words .long, h .csrc-words .most);
+        few = omega (arith, h .csrc-words .long, h .csrc-words .count-most);
         kind-narrow = kind-narrow kind (length sound) (h .carries);
         narrow = h .narrow;
         ptt = omega (arith, h .ptt);
         id = omega (arith, h .id);
         writes = all-write d is (h .items-stand);
-        room = (omega (arith, h .fewest), omega (arith, h .most));
+        room = (omega (arith, h .fewest), omega (arith, h .words-most));
       }
 
   reads : read d ext (laid csrc kind ext words m is sound) ≡ accepted m
@@ -139,7 +139,7 @@ module _ (d : Direction) (ext : ℕ) (p : List ℕ) (small : Bytes p) (h : Passe
   own-parts =
       let fine = writable-is (messageOf p) (length (payload p)) (message-writable d ext p small h) in
       record {
-        csrc-words = record { count = csrcCount p; most = omega arith; long = csrc-long d ext p small h };
+        csrc-words = record { count = csrcCount p; count-most = omega arith; long = csrc-long d ext p small h };
         carries = carried (payloadType p) (length (payload p)) (h .known-kind) (h .payload-allowed);
         narrow = numbers-fit d ext p small h;
         ptt = fine .ptt;
@@ -149,7 +149,7 @@ module _ (d : Direction) (ext : ℕ) (p : List ℕ) (small : Bytes p) (h : Passe
         each-once = once-here;
         keeps = keeps-here;
         fewest = omega (arith, room-here d ext p small h);
-        most = omega (arith, h .few-words);
+        words-most = omega (arith, h .few-words);
       }
 
   from-parts : LaidFrom d ext p (messageOf p)

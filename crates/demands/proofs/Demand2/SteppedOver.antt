@@ -26,7 +26,7 @@ use Rattle.packet.specs.declared.message.Message.{Message}
 use Rattle.packet.specs.declared.message.Items.{Items}
 use Rattle.record.specs.declared.whole.Bench.{Bench}
 use Rattle.hearing.specs.declared.hearing.Hearing.{Hearing}
-use Rattle.demands.specs.Inversion.{laid, Holds, csrcWords}
+use Rattle.demands.specs.Inversion.{laid, RoomFor, csrcWords}
 use Rattle.demands.specs.RoundTrip.{Narrow}
 use Rattle.demands.specs.Rewrite.{WithoutDdc}
 use Rattle.demands.specs.SteppedOver.{relaid, others, ddc, Alike, IsRead, SteppedOver}
@@ -224,7 +224,7 @@ module _ (d : Direction) (ext : ℕ) (p : List ℕ) (small : Bytes p) (h : Passe
   unfolding itemsHere
   once-here = here-once d _ _ (h .items-allowed)
 
-  fits : (words : ℕ) (js : List Item) → AllWrite js → Holds words js → Fit (csrcWords p) (payloadType p) (extensionType p) words m js
+  fits : (words : ℕ) (js : List Item) → AllWrite js → RoomFor words js → Fit (csrcWords p) (payloadType p) (extensionType p) words m js
   fits words js w room =
       let fine = writable-is m (length (payload p)) (message-writable d ext p small h) in
       let long = csrc-long d ext p small h in
@@ -239,14 +239,14 @@ module _ (d : Direction) (ext : ℕ) (p : List ℕ) (small : Bytes p) (h : Passe
         room = room;
       }
 
-  own-room : Holds (wordCount p) is
+  own-room : RoomFor (wordCount p) is
   own-room = (room-here d ext p small h, h .few-words)
 
   itself : relaid (wordCount p) is p ≡ p
   unfolding relaid
   itself = ap (λ (e : ℕ). laid (csrcWords p) (payloadType p) e (wordCount p) m is (payload p)) (h .type-is) ∙ sym (laid-out d ext p small h)
 
-  module _ (words : ℕ) (js : List Item) (w : AllWrite js) (room : Holds words js) (keeps : kept js ≡ kept is)
+  module _ (words : ℕ) (js : List Item) (w : AllWrite js) (room : RoomFor words js) (keeps : kept js ≡ kept is)
       (allowed : (d : Direction) → allAllowed d js ≡ allAllowed d is) (once : noTypeTwice js ≡ true) where
     abbrev changed : List ℕ
     changed = relaid words js p
@@ -270,11 +270,11 @@ module _ (d : Direction) (ext : ℕ) (p : List ℕ) (small : Bytes p) (h : Passe
               (heard-alike (csrcWords p) (payloadType p) (extensionType p) m (payload p) (wordCount p) words is js f g refl keeps allowed same b n);
         }
 
-  without : (words : ℕ) → Holds words (others is) → Alike p words (others is)
+  without : (words : ℕ) → RoomFor words (others is) → Alike p words (others is)
   without words room = with-items words (others is) (others-write is writes-here) room (others-kept is) (λ e. others-allowed e is) (others-once is once-here)
 
   with-one : (words : ℕ) (before after : List Item) (value : List ℕ) → WithoutDdc p → is ≡ before ++ after → length value ≤ 15
-      → Holds words (before ++ ddc value ∷ after) → Alike p words (before ++ ddc value ∷ after)
+      → RoomFor words (before ++ ddc value ∷ after) → Alike p words (before ++ ddc value ∷ after)
   with-one words before after value none e short room =
       let gone : others (before ++ ddc value ∷ after) ≡ is = others-put after value before (sym (ap (hasType ddcType) e) ∙ none) ∙ sym e in
       with-items words (before ++ ddc value ∷ after) (put-write after value before short (subst AllWrite e writes-here)) room

@@ -27,4 +27,4 @@ module _ (q : ℕ) (least : 1 ≤ q) (most : q ≤ 15) where
       (λ l. absurd (omega arith))
 
 pub steps : Steps
-steps = record { fall = λ level q least most. fall q least most level; most = quality-most }
+steps = record { fall = λ level q least most. fall q least most level; never-above = quality-most }

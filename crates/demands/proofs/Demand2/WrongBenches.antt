@@ -28,7 +28,7 @@ use Rattle.record.specs.declared.whole.Bench.{Bench}
 use Rattle.hearing.specs.declared.hearing.Hearing.{Hearing}
 use Rattle.demands.specs.Apart.{pttOf, liveAboveTest, asSeen, amongLive, recordsSeen, fixed, compared, audioSent}
 use Rattle.demands.specs.LessonsSeen.{enters, keys, asked, quietReport, sounds}
-use Rattle.demands.specs.WrongBenches.{Keeps, labAfter, Answers, Leaves, WrongBench, refusing, repeating, ignoring, nodding, inventing, withBytes, withCount, retold, wrong, ApartAlone, entered, reported, spoken, Tried, WrongBenches}
+use Rattle.demands.specs.WrongBenches.{Obeys, labAfter, Answers, Leaves, WrongBench, refusing, repeating, ignoring, nodding, inventing, withBytes, withCount, retold, wrong, ApartAlone, entered, reported, spoken, Tried, WrongBenches}
 use Rattle.packet.proofs.Judged.{never}
 use Rattle.demands.proofs.Demand3.LiveTicks.{flag-compared, live-alike}
 use Rattle.demands.proofs.Demand3.LiveOnAir.{same-air}
@@ -87,7 +87,7 @@ not-inventing count first third =
     let one : sounds count false ≡ sounds 1 false = ap (mapped (withCount count)) (sym (tried .one-missing)) ∙ third ∙ tried .one-missing in
     omega (arith, count-said none, count-said one)
 
-shut-out : (w : WrongBench) → Keeps (wrong w) → ⊥
+shut-out : (w : WrongBench) → Obeys (wrong w) → ⊥
 shut-out (refusing number cause) keeps = not-refusing number cause (ap (λ (o : Outcome). o .answer) (keeps (labAfter []) (enters 1)))
 shut-out (repeating bytes) keeps =
     not-repeating bytes
