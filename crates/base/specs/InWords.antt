@@ -1,4 +1,4 @@
--- Second witness: proofs/InWords holds the definitions of Order to it.
+-- Second witness of `base`: proofs/InWords holds the definitions of Order to it.
 -- 01, Order of packets, once more, in whole numbers from zero up.
 use Prim.Native.Nat.{ℕ, _+_, _%_, _≤_}
 use mathlib.Core.Path.{_≡_}

@@ -1,4 +1,4 @@
--- 02, request 14: "After any calls, heard plus missing must equal 0 if nothing was accepted, else 1 plus the sum of the distances of all accepted
+-- Second witness of `hearing` (messageIn): 02, request 14: "After any calls, heard plus missing must equal 0 if nothing was accepted, else 1 plus the sum of the distances of all accepted
 -- packets after the first, taken from the history."
 use Prim.Native.Nat.{ℕ, _+_}
 use mathlib.Core.Path.{_≡_}

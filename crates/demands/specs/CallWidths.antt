@@ -1,4 +1,4 @@
--- Second witness: 01's ranges of what a call is given, as the code's parameters have them: any number of so many bits is taken, with or without a sign, and none is cut off before the
+-- Second witness of `seats`, `hearing`, `reporting`, `sending`: 01's ranges of what a call is given, as the code's parameters have them: any number of so many bits is taken, with or without a sign, and none is cut off before the
 -- call sees it.
 use Prim.Native.Nat.{ℕ}
 use mathlib.Core.Path.{_≡_}

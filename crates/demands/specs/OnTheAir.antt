@@ -1,4 +1,4 @@
--- Second witness: 01, Who is on the air, of every bench that calls lead to. What its record says is what 01's sentences say, in the words and numbers that crate
+-- Second witness of `air`, `demands` (liveAboveTest): 01, Who is on the air, of every bench that calls lead to. What its record says is what 01's sentences say, in the words and numbers that crate
 -- `air` has beside its definitions (InWords). And demand 3's "While", in the same words.
 use Prim.Native.Nat.{ℕ, _≤_}
 use mathlib.Core.Path.{_≡_}

@@ -1,4 +1,4 @@
--- Second witness: 01, Report to a seat, of the bytes of a report. They are read back, and say what crate `reporting` says in words (InWords, `Tells`). So does each report of a
+-- Second witness of `reporting`, `sending`: 01, Report to a seat, of the bytes of a report. They are read back, and say what crate `reporting` says in words (InWords, `Tells`). So does each report of a
 -- tick; and which numbers reports have.
 use Prim.Native.Nat.{ℕ, _^_, _<_}
 use mathlib.Core.Path.{_≡_}

@@ -1,4 +1,4 @@
--- Second witness: 01: "side now in use (main or standby), set by the radio itself"; "23 | .. side event on a single radio". What moves the side besides a packet's item
+-- Second witness of `seats`: 01: "side now in use (main or standby), set by the radio itself"; "23 | .. side event on a single radio". What moves the side besides a packet's item
 -- (PacketTells).
 use Prim.Native.Nat.{ℕ}
 use mathlib.Core.Path.{_≡_}

@@ -1,4 +1,4 @@
--- Second witness: 01, Silence, from the calls themselves: which seats are open, which a tick closes and which are due. Neither the times that a seat keeps nor the definitions of
+-- Second witness of `seats`, `hearing`: 01, Silence, from the calls themselves: which seats are open, which a tick closes and which are due. Neither the times that a seat keeps nor the definitions of
 -- crate `seats` are cited.
 use Prim.Native.Nat.{ℕ, _+_, _*_, _%_, _≤_, _<_}
 use mathlib.Core.Path.{_≡_}

@@ -1,4 +1,4 @@
--- Second witness: 01, What is turned away, 1 to 12. Which number refuses, for every packet, over its bytes alone, in 01's order. (What a packet says that is
+-- Second witness of `packet`, `items`, `reader` (readTx, readRx): 01, What is turned away, 1 to 12. Which number refuses, for every packet, over its bytes alone, in 01's order. (What a packet says that is
 -- not turned away: LaidOut.)
 use Prim.Native.Nat.{ℕ, _+_, _*_, _-_, _/_, _%_, _≤_, _<_}
 use mathlib.Core.Path.{_≡_}

@@ -1,4 +1,4 @@
--- Second witness: 01's "Packet for a seat" once more in words and numbers: what a packet's message is turned away for (19 to 23, and 02's 33), what it answers and what it
+-- Second witness of `hearing`: 01's "Packet for a seat" once more in words and numbers: what a packet's message is turned away for (19 to 23, and 02's 33), what it answers and what it
 -- leaves. proofs/InWords holds the definitions of Hearing and Account to it; none of them is cited. The codes: call types 0 Idle, 1 Rxonly, 2 TxRx, 3 Coupling; kinds 1
 -- a pair, 2 a shared radio, every other a single one.
 use Prim.Native.Nat.{ℕ, _+_, _*_, _≤_, _<_}

@@ -1,4 +1,4 @@
--- Second witness: the form in which 01's table of refusals is said once more, and the quality of a level.
+-- Second witness of `packet`: the form in which 01's table of refusals is said once more, and the quality of a level.
 use Prim.Native.Nat.{ℕ, _+_, _*_, _-_, _≤_, _<_}
 use mathlib.Core.Path.{_≡_}
 use mathlib.Core.List.{List, [], _∷_}

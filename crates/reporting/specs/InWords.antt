@@ -1,4 +1,4 @@
--- Second witness: 01's "Report to a seat" once more in words and numbers: what it tells, when it is turned away (13, 14, 25, 26), and its next number. proofs/InWords holds
+-- Second witness of `reporting`: 01's "Report to a seat" once more in words and numbers: what it tells, when it is turned away (13, 14, 25, 26), and its next number. proofs/InWords holds
 -- the definitions of Reporting to it; none of them is cited. Who is on the air is said as crate `air` says it in words. The codes: call types 2 TxRx, 3 Coupling; kinds 1 a
 -- pair, 2 a shared radio, every other a single one.
 use Prim.Native.Nat.{ℕ, _+_, _≤_, _<_}
