@@ -4,3 +4,4 @@ pub mod Calls
 pub mod ExactCalls
 pub mod ExactAll
 pub mod EachRefusal
+pub mod BuffersStay

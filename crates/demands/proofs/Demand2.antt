@@ -25,3 +25,4 @@ pub mod Steps
 pub mod Nodding
 pub mod WrongBenches
 pub mod Unreadable
+pub mod FieldsRead

@@ -15,3 +15,4 @@ pub mod LivePackets
 pub mod Apart
 pub mod LessonsSeen
 pub mod Undisturbed
+pub mod AtMost

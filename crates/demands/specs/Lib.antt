@@ -7,6 +7,8 @@ pub mod Inversion
 pub mod RoundTrip
 pub mod LaidOut
 pub mod Unreadable
+pub mod FieldsRead
+pub mod BuffersStay
 pub mod EachRefusal
 pub mod Unwritable
 pub mod Rewrite
@@ -30,6 +32,7 @@ pub mod TicksAddUp
 pub mod AsSingles
 pub mod Apart
 pub mod OnTheAir
+pub mod AtMost
 pub mod ReportTells
 pub mod LessonsSeen
 pub mod OneDifference

@@ -1,2 +1,3 @@
 -- A packet behind its length.
 pub mod Framing
+pub mod InWords

@@ -30,3 +30,18 @@ pub field-says : (ptt squ id pm ptts sct x : ℕ) → ptt ≤ 7 → squ ≤ 1 �
     → FieldSays (placed 16 0 3 ptt + placed 16 3 1 squ + placed 16 4 6 id + placed 16 10 1 pm + placed 16 11 1 ptts + placed 16 12 1 sct + placed 16 15 1 x)
     ptt squ id pm ptts sct x
 field-says ptt squ id pm ptts sct x hptt hsqu hid hpm hptts hsct hx = omega arith
+
+-- the bits of a field, each by its byte
+pub record FieldBits (f high low : ℕ) : Type 0 where
+  pub type-is : pttType f ≡ high / 32
+  pub squ-is : squ f ≡ high / 16 % 2
+  pub id-is : pttId f ≡ 4 * (high % 16) + low / 64
+  pub pm-is : pm f ≡ low / 32 % 2
+  pub ptts-is : ptts f ≡ low / 16 % 2
+  pub sct-is : sct f ≡ low / 8 % 2
+  pub reserved-tx : reserved Tx f ≡ low / 2 % 8
+  pub reserved-rx : reserved Rx f ≡ low / 2 % 4
+  pub x-is : x f ≡ low % 2
+
+pub field-bits : (high low : ℕ) → high < 256 → low < 256 → FieldBits (high * 256 + low) high low
+field-bits high low h l = omega arith

@@ -1,5 +1,5 @@
 -- Which refusal of 1 to 12 a reader answers: each of its tests says the line of the table with that number.
-use Prim.Native.Nat.{ℕ, _+_, _*_, _-_, _/_, _%_, _≤_}
+use Prim.Native.Nat.{ℕ, _+_, _*_, _-_, _%_, _≤_}
 use mathlib.Core.Path.{_≡_, refl, ap, sym, subst, _∙_}
 use mathlib.Core.Bool.{Bool, true, false, not, _&&_, _||_, false≢true}
 use mathlib.Core.List.{List, [], _∷_, _++_}
@@ -24,6 +24,7 @@ use Rattle.demands.specs.LaidOut.{Carries, AllStand, EachOnce}
 use Rattle.demands.specs.Unreadable.{byte, number, headEnd, words, wordsEnd, inBytes, UnderX, zeros-alone, items-first, ItemsFit, Unreadable, ReadersTurnAway}
 use Rattle.demands.specs.Unreadable as line
 use Rattle.demands.proofs.Demand2.Inversion.{take-bytes, drop-bytes, items-under-x}
+use Rattle.demands.proofs.Demand2.Numbers.{FieldBits, field-bits}
 use Rattle.demands.proofs.Demand2.ItemsBack.{AllWrite, allowed-back}
 use Rattle.demands.proofs.Demand2.AllowedItems.{all-write, here-stand, here-once}
 use Rattle.demands.proofs.Demand2.LaidOut.{payload-fits, carried, all-allowed, none-twice, each-once}
@@ -90,7 +91,7 @@ module _ (d : Direction) (ext : ℕ) (p : List ℕ) (small : Bytes p) where
   words-are : wordCount p ≡ words p
   words-are = let at : extensionAt p + 2 ≡ headEnd p - 2 = omega arith in rw (← at) (omega arith)
 
-  words-end : payloadAt p ≡ wordsEnd p
+  pub words-end : payloadAt p ≡ wordsEnd p
   words-end = omega (arith, words-are)
 
   kind-is : payloadType p ≡ byte p 1 % 128
@@ -118,16 +119,8 @@ module _ (d : Direction) (ext : ℕ) (p : List ℕ) (small : Bytes p) where
   abbrev low : ℕ
   low = byte p (headEnd p + 1)
 
-  -- each bit of the two by its byte
-  record Bits : Type 0 where
-    type-is : pttType f ≡ high / 32
-    squ-is : squ f ≡ high / 16 % 2
-    reserved-tx : reserved Tx f ≡ low / 2 % 8
-    reserved-rx : reserved Rx f ≡ low / 2 % 4
-    x-is : x f ≡ low % 2
-
-  bits : Bits
-  bits = omega (arith, small (headEnd p), small (headEnd p + 1), ap (λ (n : ℕ). byte p n * 256 + byte p (n + 1)) head-end)
+  pub bits : FieldBits f high low
+  bits = rw head-end (field-bits high low (small (headEnd p)) (small (headEnd p + 1)))
 
   -- ---- the items of the packet
 
