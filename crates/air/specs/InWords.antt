@@ -1,5 +1,5 @@
--- Second witness of `air`: 01, Who is on the air, once more in its own words and in numbers. proofs/InWords holds the definitions of Air and Order to it; none of them
--- is cited. The codes of the PTT types: 1 Normal, 2 Coupling, 3 Priority, 4 Emergency, 5 Test.
+-- Second witness of `air`: 01, Who is on the air, once more in its own words and in numbers. proofs/InWords holds the definitions of Air
+-- and Order to it; none of them is cited. The codes of the PTT types: 1 Normal, 2 Coupling, 3 Priority, 4 Emergency, 5 Test.
 use Prim.Native.Nat.{ℕ, suc, _≤_, _<_}
 use mathlib.Core.Path.{_≡_}
 use mathlib.Core.Bool.{true, false, cond}

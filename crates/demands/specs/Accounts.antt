@@ -1,5 +1,5 @@
--- Second witness of `hearing` (messageIn): 02, request 14: "After any calls, heard plus missing must equal 0 if nothing was accepted, else 1 plus the sum of the distances of all accepted
--- packets after the first, taken from the history."
+-- Second witness of `hearing` (messageIn): 02, request 14: "After any calls, heard plus missing must equal 0 if nothing was accepted, else
+-- 1 plus the sum of the distances of all accepted packets after the first, taken from the history."
 use Prim.Native.Nat.{ℕ, _+_}
 use mathlib.Core.Path.{_≡_}
 use mathlib.Core.Bool.{true, cond}
@@ -16,8 +16,8 @@ use Rattle.record.specs.declared.setup.Setup.{Setup}
 use Rattle.record.specs.declared.seat.Seat.{Seat}
 use Rattle.record.specs.declared.whole.Bench.{Bench}
 
--- The history of seat n, from the accepted calls alone: the sequence numbers of its packets since it was last opened, the first one first. An
--- opening begins it, a packet is added at its end.
+-- The history of seat n, from the accepted calls alone: the sequence numbers of its packets since it was last opened, the first one first.
+-- An opening begins it, a packet is added at its end.
 abbrev pub noted : (n : ℕ) → (history : List ℕ) → Call → List ℕ
 noted n history (opening m r) = cond (eqb n m) [] history
 noted n history (packet m p) = cond (eqb n m) (history ++ messageIn p .sequence ∷ []) history

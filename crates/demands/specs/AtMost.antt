@@ -1,4 +1,5 @@
--- Second witness of `demands` (blotted, isTesting): of what demand 3 compares, "such reports differ at most in PTT type, ptt-id and PTTS". Reports that are the same to it (Apart, blotted) are the same in every other bit.
+-- Second witness of `demands` (blotted, isTesting): of what demand 3 compares, "such reports differ at most in PTT type, ptt-id and PTTS".
+-- Reports that are the same to it (Apart, blotted) are the same in every other bit.
 use Prim.Native.Nat.{ℕ, _/_, _%_, _≤_}
 use mathlib.Core.Path.{_≡_}
 use mathlib.Core.Bool.{true}

@@ -1,4 +1,5 @@
--- Second witness of `hearing`: 01: "An accepted audio packet's payload is sent, to the side in use, exactly if its seat is on the air after it."
+-- Second witness of `hearing`: 01: "An accepted audio packet's payload is sent, to the side in use, exactly if its seat is on the air after
+-- it."
 use Prim.Native.Nat.{ℕ}
 use mathlib.Core.Path.{_≡_}
 use mathlib.Core.Bool.{false, cond}

@@ -1,5 +1,6 @@
--- Second witness of `air`: 01: "the seat whose present keying began first". Of every run: from its accepted calls when each seat's present keying began, and that who began earlier stands earlier in the order
--- (which is what lockout asks: OnTheAir, the-first). Nothing here cites the definitions of crate `air`.
+-- Second witness of `air`: 01: "the seat whose present keying began first". Of every run: from its accepted calls when each seat's present
+-- keying began, and that who began earlier stands earlier in the order (which is what lockout asks: OnTheAir, the-first). Nothing here
+-- cites the definitions of crate `air`.
 use Prim.Native.Nat.{ℕ, suc, _≤_, _<_}
 use mathlib.Core.Path.{_≡_}
 use mathlib.Core.Bool.{false, cond, _||_}

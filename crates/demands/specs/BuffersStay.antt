@@ -1,4 +1,6 @@
--- Second witness of `writer` (write, buffered, put, afterPut), `reporting` (reportSaid, reportBuffer), `sending` (tickSaid, tickBuffer): "Bytes past its length stay.", of a report; 02, of a tick: "bytes past those stay"; and so of what a writer writes. "State and buffers stay the same" where it is refused.
+-- Second witness of `writer` (write, buffered, put, afterPut), `reporting` (reportSaid, reportBuffer), `sending` (tickSaid, tickBuffer):
+-- "Bytes past its length stay.", of a report; 02, of a tick: "bytes past those stay"; and so of what a writer writes. "State and buffers
+-- stay the same" where it is refused.
 use Prim.Native.Nat.{ℕ, _≤_}
 use mathlib.Core.Path.{_≡_}
 use mathlib.Core.List.{List}

@@ -1,5 +1,5 @@
--- Second witness of `seats`, `hearing`, `reporting`, `sending`: 01's ranges of what a call is given, as the code's parameters have them: any number of so many bits is taken, with or without a sign, and none is cut off before the
--- call sees it.
+-- Second witness of `seats`, `hearing`, `reporting`, `sending`: 01's ranges of what a call is given, as the code's parameters have them:
+-- any number of so many bits is taken, with or without a sign, and none is cut off before the call sees it.
 use Prim.Native.Nat.{ℕ}
 use mathlib.Core.Path.{_≡_}
 use mathlib.Core.List.{List, [], _∷_, _++_}
@@ -10,13 +10,15 @@ use Rattle.hearing.proofs as hearing
 use Rattle.reporting.proofs as reporting
 use Rattle.sending.proofs as sending
 
--- Behind the bench a function is given parameters of these kinds first: pNum a number of so many bits, pSNum one with a sign, pBool a truth.
+-- Behind the bench a function is given parameters of these kinds first: pNum a number of so many bits, pSNum one with a sign, pBool a
+-- truth.
 pub record Given {n : ℕ} (first parameters : List (PK n)) : Type 3 where
   pub bench : PK n
   pub more : List (PK n)
   pub are : parameters ≡ bench ∷ first ++ more
 
--- A seat of 8 bits, so that 13 can be met; and the request, whose fields are a call type, "R2S period 20 to 1000 ms, multiplier 2 to 50, SSRC and first sequence number": 16, 8, 32 and 16 bits.
+-- A seat of 8 bits, so that 13 can be met; and the request, whose fields are a call type, "R2S period 20 to 1000 ms, multiplier 2 to 50,
+-- SSRC and first sequence number": 16, 8, 32 and 16 bits.
 pub record OpenGiven (parameters : List (PK 0)) : Type 3 where
   pub bench : PK 0
   pub request : PK 0

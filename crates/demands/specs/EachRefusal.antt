@@ -1,5 +1,7 @@
--- Second witness of `reader` (readTx), `writer` (fromTx, encode, write), `seats`, `hearing`, `reporting`, `sending`: 01, What is turned away: a row for each number, with its cause, next to a packet that is read and written with every byte of its head different, so that byte order
--- and bit places are fixed by this table. (33 is in TotalsBound; 19 to 23 and 33 for every packet: PacketTells; 13 to 18 and 24 to 26 for every call: Limits.)
+-- Second witness of `reader` (readTx), `writer` (fromTx, encode, write), `seats`, `hearing`, `reporting`, `sending`: 01, What is turned
+-- away: a row for each number, with its cause, next to a packet that is read and written with every byte of its head different, so that
+-- byte order and bit places are fixed by this table. (33 is in TotalsBound; 19 to 23 and 33 for every packet: PacketTells; 13 to 18 and 24
+-- to 26 for every call: Limits.)
 use Prim.Native.Nat.{ℕ}
 use mathlib.Core.Path.{_≡_}
 use mathlib.Core.Bool.{true, false}

@@ -1,4 +1,5 @@
--- Second witness of `seats`: 01: "signals received (0 to 255) with a level ..; transmitter healthy or not". Each is what its last event set, and no other call moves it. (The side: SideMoves.)
+-- Second witness of `seats`: 01: "signals received (0 to 255) with a level ..; transmitter healthy or not". Each is what its last event
+-- set, and no other call moves it. (The side: SideMoves.)
 use Prim.Native.Nat.{ℕ}
 use mathlib.Core.Path.{_≡_}
 use mathlib.Core.Bool.{Bool, true, false}

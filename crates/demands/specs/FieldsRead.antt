@@ -1,5 +1,6 @@
--- Second witness of `packet` (payload), `reader` (read): 01, The packet: where each field of an accepted packet stands, in plain numbers over its bytes. "Bit 0 is the most significant bit of a byte; numbers are big-endian." (Its
--- items: LaidOut. Which packets are accepted: Unreadable.)
+-- Second witness of `packet` (payload), `reader` (read): 01, The packet: where each field of an accepted packet stands, in plain numbers
+-- over its bytes. "Bit 0 is the most significant bit of a byte; numbers are big-endian." (Its items: LaidOut. Which packets are accepted:
+-- Unreadable.)
 use Prim.Native.Nat.{ℕ, _+_, _*_, _/_, _%_}
 use mathlib.Core.Path.{_≡_}
 use mathlib.Core.Bool.{true}

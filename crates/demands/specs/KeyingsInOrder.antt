@@ -1,5 +1,5 @@
--- Second witness of `air`: 01: "the order in which present keyings began"; "A keying begins at the packet that brought the seat from off, muted or another type; a transmitter fault doesn't
--- restart it." Call by call, in the words of crate `air` (InWords).
+-- Second witness of `air`: 01: "the order in which present keyings began"; "A keying begins at the packet that brought the seat from off,
+-- muted or another type; a transmitter fault doesn't restart it." Call by call, in the words of crate `air` (InWords).
 use Prim.Native.Nat.{ℕ}
 use mathlib.Core.Path.{_≡_}
 use mathlib.Core.List.{List}

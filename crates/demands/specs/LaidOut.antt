@@ -1,5 +1,6 @@
--- Second witness of `packet` (payload), `items`, `reader` (itemsHere, read, readTx, readRx): 01, The packet: a packet is accepted exactly if it is laid out of the parts that 01 allows. This is Inversion with its converse: CSRC
--- words, a payload type with a payload that fits it, the message, allowed items in any order, and any word count from the fewest to 15.
+-- Second witness of `packet` (payload), `items`, `reader` (itemsHere, read, readTx, readRx): 01, The packet: a packet is accepted exactly
+-- if it is laid out of the parts that 01 allows. This is Inversion with its converse: CSRC words, a payload type with a payload that fits
+-- it, the message, allowed items in any order, and any word count from the fewest to 15.
 use Prim.Native.Nat.{ℕ, _+_, _*_, _^_, _≤_, _<_}
 use mathlib.Core.Path.{_≡_}
 use mathlib.Core.Bool.{false}

@@ -1,5 +1,6 @@
--- Second witness of `seats` (silenceCause), `reporting`, `sending`, `writer` (write): 01, What is turned away, of every other call, with its number and cause, in the words and numbers of InWords of `seats`, `reporting`, `sending` and `writer`: 13 to 18 and 24 to
--- 27. (1 to 12: Unreadable. A packet: PacketTells. The side event: SideMoves.)
+-- Second witness of `seats` (silenceCause), `reporting`, `sending`, `writer` (write): 01, What is turned away, of every other call, with
+-- its number and cause, in the words and numbers of InWords of `seats`, `reporting`, `sending` and `writer`: 13 to 18 and 24 to 27. (1 to
+-- 12: Unreadable. A packet: PacketTells. The side event: SideMoves.)
 use Prim.Native.Nat.{ℕ}
 use mathlib.Core.Path.{_≡_}
 use mathlib.Core.Bool.{Bool}

@@ -1,5 +1,6 @@
--- Second witness of `air`, `demands` (liveAboveTest): 01, Who is on the air, of every bench that calls lead to. What its record says is what 01's sentences say, in the words and numbers that crate
--- `air` has beside its definitions (InWords). And demand 3's "While", in the same words.
+-- Second witness of `air`, `demands` (liveAboveTest): 01, Who is on the air, of every bench that calls lead to. What its record says is
+-- what 01's sentences say, in the words and numbers that crate `air` has beside its definitions (InWords). And demand 3's "While", in the
+-- same words.
 use Prim.Native.Nat.{ℕ, _≤_}
 use mathlib.Core.Path.{_≡_}
 use mathlib.Core.Bool.{true, false}
@@ -12,7 +13,8 @@ use Rattle.record.specs.declared.setup.Setup.{Setup}
 use Rattle.record.specs.declared.whole.Bench.{Bench}
 use Rattle.demands.specs.Apart.{liveAboveTest}
 
--- "a healthy transmitter has an unmuted live keying above Test": a live seat takes part with Normal, Coupling, Priority or Emergency (1 to 4)
+-- "a healthy transmitter has an unmuted live keying above Test": a live seat takes part with Normal, Coupling, Priority or Emergency (1 to
+-- 4)
 pub record LiveAbove (b : Bench) : Type 0 where
   pub seat : ℕ
   pub live : lesson (b .setup) seat ≡ false

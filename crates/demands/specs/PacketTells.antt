@@ -1,5 +1,6 @@
--- Second witness of `reader` (readTx), `seats`, `hearing`: 01, "Packet for a seat", of every bench and every packet: when it is turned away, with which number and cause, and what it answers and leaves where it is not, in
--- the words and numbers of Unreadable (its bytes) and of InWords of `seats` (its seat) and `hearing` (its message).
+-- Second witness of `reader` (readTx), `seats`, `hearing`: 01, "Packet for a seat", of every bench and every packet: when it is turned
+-- away, with which number and cause, and what it answers and leaves where it is not, in the words and numbers of Unreadable (its bytes) and
+-- of InWords of `seats` (its seat) and `hearing` (its message).
 use Prim.Native.Nat.{ℕ}
 use mathlib.Core.Path.{_≡_}
 use mathlib.Core.List.{List}

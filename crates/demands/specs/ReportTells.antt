@@ -1,5 +1,5 @@
--- Second witness of `reporting`, `sending`: 01, Report to a seat, of the bytes of a report. They are read back, and say what crate `reporting` says in words (InWords, `Tells`). So does each report of a
--- tick; and which numbers reports have.
+-- Second witness of `reporting`, `sending`: 01, Report to a seat, of the bytes of a report. They are read back, and say what crate
+-- `reporting` says in words (InWords, `Tells`). So does each report of a tick; and which numbers reports have.
 use Prim.Native.Nat.{ℕ, _^_, _<_}
 use mathlib.Core.Path.{_≡_}
 use mathlib.Core.Bool.{Bool, true, false}
@@ -37,7 +37,8 @@ pub record OnlyItsNumber (n : ℕ) (old new : List ℕ) : Type 0 where
 pub record Reports (b : Bench) : Type 0 where
   pub one : (n timestamp : ℕ) (sound : List ℕ) (room : ℕ) (bytes : List ℕ) → timestamp < 2 ^ 32
       → keeping b (report n timestamp sound room) .answer ≡ accepted (written bytes) → IsReport b n timestamp sound bytes
-  -- 02, request 6: a tick writes the report of each due seat, and "Reports show the bench after the tick's closings": the one that it leaves, with the numbers from before it
+  -- 02, request 6: a tick writes the report of each due seat, and "Reports show the bench after the tick's closings": the one that it
+  -- leaves, with the numbers from before it
   pub by-tick : (ms timestamp room : ℕ) (closed due : List Bool) (records : List (List ℕ)) → timestamp < 2 ^ 32
       → keeping b (tick ms timestamp room) .answer ≡ accepted (ticked closed due records) → (n : ℕ) → entryOf false due n ≡ true
       → IsReport (withSequences (keeping b (tick ms timestamp room) .bench) (b .sequences)) n timestamp [] (entryOf [] records n)

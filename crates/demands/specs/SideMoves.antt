@@ -1,5 +1,5 @@
--- Second witness of `seats`: 01: "side now in use (main or standby), set by the radio itself"; "23 | .. side event on a single radio". What moves the side besides a packet's item
--- (PacketTells).
+-- Second witness of `seats`: 01: "side now in use (main or standby), set by the radio itself"; "23 | .. side event on a single radio". What
+-- moves the side besides a packet's item (PacketTells).
 use Prim.Native.Nat.{ℕ}
 use mathlib.Core.Path.{_≡_}
 use mathlib.Core.Bool.{Bool}

@@ -1,5 +1,5 @@
--- Second witness of `seats`, `hearing`: 01, Silence, from the calls themselves: which seats are open, which a tick closes and which are due. Neither the times that a seat keeps nor the definitions of
--- crate `seats` are cited.
+-- Second witness of `seats`, `hearing`: 01, Silence, from the calls themselves: which seats are open, which a tick closes and which are
+-- due. Neither the times that a seat keeps nor the definitions of crate `seats` are cited.
 use Prim.Native.Nat.{ℕ, _+_, _*_, _%_, _≤_, _<_}
 use mathlib.Core.Path.{_≡_}
 use mathlib.Core.Bool.{Bool, true, false, cond}
@@ -15,7 +15,8 @@ use Rattle.record.specs.declared.setup.Setup.{Setup}
 use Rattle.record.specs.declared.whole.Bench.{Bench}
 use Rattle.seats.specs.declared.opening.Request.{Request}
 
--- What a listener would note of a seat: whether it is open, what it was opened with, the ms ticked since opening or its last accepted packet (quiet), and those since opening (age).
+-- What a listener would note of a seat: whether it is open, what it was opened with, the ms ticked since opening or its last accepted
+-- packet (quiet), and those since opening (age).
 pub record Clock : Type 0 where
   pub runs : Bool
   pub period : ℕ
@@ -32,8 +33,8 @@ started r = record { runs = true; period = r .period; multiplier = r .multiplier
 abbrev pub clockWith : Clock → (quiet age : ℕ) → Clock
 clockWith k quiet age = record { runs = k .runs; period = k .period; multiplier = k .multiplier; quiet = quiet; age = age }
 
--- One accepted call further. "Opening and each accepted packet set a seat's time left to period times multiplier ms. A tick takes its ms from that; the seat is closed if
--- nothing is left."
+-- One accepted call further. "Opening and each accepted packet set a seat's time left to period times multiplier ms. A tick takes its ms
+-- from that; the seat is closed if nothing is left."
 abbrev pub clockAfter : (n : ℕ) → Clock → Call → Clock
 clockAfter n k (opening m r) = cond (eqb n m) (started r) k
 clockAfter n k (closing m) = cond (eqb n m) stopped k
@@ -55,7 +56,8 @@ clockOf n setup run = clockThrough n stopped (acceptedCalls keeping (freshBench 
 -- What a tick tells of a seat with that clock.
 pub record TickTells (k : Clock) (ms : ℕ) (closed due : Bool) : Type 0 where
   pub closes : (closed ≡ true) ↔ ((k .runs ≡ true) × (k .period * k .multiplier ≤ k .quiet + ms))
-  -- "A seat is due when its period, counted from opening, runs out; several in one tick count once and the phase is kept. A closed seat isn't due."
+  -- "A seat is due when its period, counted from opening, runs out; several in one tick count once and the phase is kept. A closed seat
+  -- isn't due."
   pub is-due : (due ≡ true) ↔ ((k .runs ≡ true) × (k .quiet + ms < k .period * k .multiplier) × (k .period ≤ k .age % k .period + ms))
 
 pub record SilenceAndDue : Type 0 where

@@ -1,5 +1,5 @@
--- Second witness of `packet`, `items`, `reader` (readTx, readRx): 01, What is turned away, 1 to 12. Which number refuses, for every packet, over its bytes alone, in 01's order. (What a packet says that is
--- not turned away: LaidOut.)
+-- Second witness of `packet`, `items`, `reader` (readTx, readRx): 01, What is turned away, 1 to 12. Which number refuses, for every packet,
+-- over its bytes alone, in 01's order. (What a packet says that is not turned away: LaidOut.)
 use Prim.Native.Nat.{ℕ, _+_, _*_, _-_, _/_, _%_, _≤_, _<_}
 use mathlib.Core.Path.{_≡_}
 use mathlib.Core.List.{List, [], _∷_, _++_}
@@ -35,7 +35,8 @@ unfoldable pub inBytes : List Item → List ℕ
 inBytes [] = []
 inBytes (i ∷ is) = (16 * i .type + length (i .value)) ∷ i .value ++ inBytes is
 
--- "X = 0: all remaining bytes are zero. X = 1: at least one item; a zero byte where an item would begin ends them, and all bytes after it are zero."
+-- "X = 0: all remaining bytes are zero. X = 1: at least one item; a zero byte where an item would begin ends them, and all bytes after it
+-- are zero."
 pub data UnderX : (x : ℕ) → (rest : List ℕ) → List Item → Type 0 where
   zeros-alone : (zeros : ℕ) → UnderX 0 (replicate zeros 0) []
   items-first : (i : Item) (is : List Item) (zeros : ℕ) → UnderX 1 (inBytes (i ∷ is) ++ replicate zeros 0) (i ∷ is)
@@ -68,7 +69,8 @@ pub data Unreadable (d : Direction) (ext : ℕ) (p : List ℕ) : (number cause :
   many-words : 15 < words p → Unreadable d ext p 8 0
   -- "9 | cut inside the words"
   cut-in-words : length p < wordsEnd p → Unreadable d ext p 9 0
-  -- "10 | first two bytes break a rule above (cause 2012)": "6 and 7 are reserved", "SQU is 0 in TX", "in TX three reserved bits, in RX SCT and two"
+  -- "10 | first two bytes break a rule above (cause 2012)": "6 and 7 are reserved", "SQU is 0 in TX", "in TX three reserved bits, in RX SCT
+  -- and two"
   reserved-type : 6 ≤ byte p (headEnd p) / 32 → Unreadable d ext p 10 2012
   squ-in-tx : d ≡ Tx → byte p (headEnd p) / 16 % 2 ≡ 1 → Unreadable d ext p 10 2012
   reserved-in-tx : d ≡ Tx → (byte p (headEnd p + 1) / 2 % 8 ≡ 0 → ⊥) → Unreadable d ext p 10 2012

@@ -1,6 +1,6 @@
--- Second witness of `hearing`: 01's "Packet for a seat" once more in words and numbers: what a packet's message is turned away for (19 to 23, and 02's 33), what it answers and what it
--- leaves. proofs/InWords holds the definitions of Hearing and Account to it; none of them is cited. The codes: call types 0 Idle, 1 Rxonly, 2 TxRx, 3 Coupling; kinds 1
--- a pair, 2 a shared radio, every other a single one.
+-- Second witness of `hearing`: 01's "Packet for a seat" once more in words and numbers: what a packet's message is turned away for (19 to
+-- 23, and 02's 33), what it answers and what it leaves. proofs/InWords holds the definitions of Hearing and Account to it; none of them is
+-- cited. The codes: call types 0 Idle, 1 Rxonly, 2 TxRx, 3 Coupling; kinds 1 a pair, 2 a shared radio, every other a single one.
 use Prim.Native.Nat.{ℕ, _+_, _*_, _≤_, _<_}
 use mathlib.Core.Path.{_≡_}
 use mathlib.Core.Bool.{true, false}
@@ -34,7 +34,8 @@ pub data MessageBarred (setup : Setup) (n : ℕ) (s : Seat) (m : Tx) : (number c
   lesson-tests : lesson setup n ≡ true → 1 ≤ m .ptt → m .ptt ≤ 4 → MessageBarred setup n s m 21 0
   -- "22 | ptt-id not the seat's own; with PTT off 0 also passes"
   other-id : (OwnId n (s .call) (m .id) → ⊥) → (m .ptt ≡ 0 → m .id ≡ 0 → ⊥) → MessageBarred setup n s m 22 0
-  -- "23 | main/standby item .. on a single radio; main/standby item from a lesson seat"; 02, of a shared one: "23 also for an item of 1 here"
+  -- "23 | main/standby item .. on a single radio; main/standby item from a lesson seat"; 02, of a shared one: "23 also for an item of 1
+  -- here"
   item-on-single : (setup .kind ≡ 1 → ⊥) → (setup .kind ≡ 2 → ⊥) → (m .side ≡ item.Absent → ⊥) → MessageBarred setup n s m 23 0
   one-on-shared : setup .kind ≡ 2 → m .side ≡ item.Standby → MessageBarred setup n s m 23 0
   item-from-lesson : lesson setup n ≡ true → (m .side ≡ item.Absent → ⊥) → MessageBarred setup n s m 23 0

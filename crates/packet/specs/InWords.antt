@@ -6,8 +6,8 @@ use mathlib.Core.Logic.{_↔_, _⊎_}
 use lib.IntN.{ℤ, pos, negℤ}
 use Rattle.packet.specs.Refusals.{Answer, accepted, refused}
 
--- 01, What is turned away. A table says for each number and cause when it is met ("No. | When"), and an order in which its numbers are asked
--- ("Orders"). The first that is met:
+-- 01, What is turned away. A table says for each number and cause when it is met ("No. | When"), and an order in which its numbers are
+-- asked ("Orders"). The first that is met:
 abbrev pub FirstMet : (Met : (number cause : ℕ) → Type 0) → (order : List ℕ) → (number cause : ℕ) → Type 0
 FirstMet Met [] number cause = ⊥
 FirstMet Met (n ∷ order) number cause = ((number ≡ n) × Met number cause) ⊎ (((c : ℕ) → Met n c → ⊥) × FirstMet Met order number cause)
@@ -21,8 +21,8 @@ pub record TurnedAway {A : Type 0} (Met : (number cause : ℕ) → Type 0) (orde
   pub refuses : (number cause : ℕ) → (answer ≡ refused number cause) ↔ FirstMet Met order number cause
   pub accepts : ((a : A) × (answer ≡ accepted a)) ↔ NoneMet Met order
 
--- "quality 0 below -100 dBm, 15 above -70, between them the floor of (level + 100)/2"; in tenths, 02, request 3: "0 below -1000, 15 above -700,
--- between them the floor of (level + 1000)/20"
+-- "quality 0 below -100 dBm, 15 above -70, between them the floor of (level + 100)/2"; in tenths, 02, request 3: "0 below -1000, 15 above
+-- -700, between them the floor of (level + 1000)/20"
 pub record IsQuality (level : ℤ) (q : ℕ) : Type 0 where
   pub below : (k : ℕ) → 1000 < k → level ≡ negℤ (pos k) → q ≡ 0
   pub between : (k : ℕ) → 700 ≤ k → k ≤ 1000 → level ≡ negℤ (pos k) → (20 * q ≤ 1000 - k) × (1000 - k < 20 * q + 20)

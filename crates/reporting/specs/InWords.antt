@@ -1,6 +1,6 @@
--- Second witness of `reporting`: 01's "Report to a seat" once more in words and numbers: what it tells, when it is turned away (13, 14, 25, 26), and its next number. proofs/InWords holds
--- the definitions of Reporting to it; none of them is cited. Who is on the air is said as crate `air` says it in words. The codes: call types 2 TxRx, 3 Coupling; kinds 1 a
--- pair, 2 a shared radio, every other a single one.
+-- Second witness of `reporting`: 01's "Report to a seat" once more in words and numbers: what it tells, when it is turned away (13, 14, 25,
+-- 26), and its next number. proofs/InWords holds the definitions of Reporting to it; none of them is cited. Who is on the air is said as
+-- crate `air` says it in words. The codes: call types 2 TxRx, 3 Coupling; kinds 1 a pair, 2 a shared radio, every other a single one.
 use Prim.Native.Nat.{ℕ, _+_, _≤_, _<_}
 use mathlib.Core.Path.{_≡_}
 use mathlib.Core.Bool.{true, false}
@@ -50,7 +50,8 @@ pub data ReportBarred (b : Bench) (n : ℕ) (sound : List ℕ) (room : ℕ) : (n
   -- "25 | report audio not 0, 80, 160 or 240 bytes, or audio while SQU is 0"
   no-length : (length sound ≡ 0 → ⊥) → (length sound ≡ 80 → ⊥) → (length sound ≡ 160 → ⊥) → (length sound ≡ 240 → ⊥) → ReportBarred b n sound room 25 0
   no-signal : b .signals ≡ 0 → (length sound ≡ 0 → ⊥) → ReportBarred b n sound room 25 0
-  -- "26 | buffer shorter than the packet to write": 20 bytes and the audio, and a word more where it has both items, of a signal and of a side
+  -- "26 | buffer shorter than the packet to write": 20 bytes and the audio, and a word more where it has both items, of a signal and of a
+  -- side
   under-20 : room < 20 + length sound → ReportBarred b n sound room 26 0
   under-24 : 1 ≤ b .signals → (b .setup .kind ≡ 1) ⊎ (b .setup .kind ≡ 2) → room < 24 + length sound → ReportBarred b n sound room 26 0
 

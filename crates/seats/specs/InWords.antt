@@ -1,5 +1,6 @@
--- Second witness of `seats`: 01's Open, Close and side event once more in words and numbers: 13 to 18, and 23 of the event. proofs/InWords holds the definitions of Opening and
--- Radio to it; none of them is cited. The codes: call types 0 Idle, 1 Rxonly, 2 TxRx, 3 Coupling; kinds 1 a pair, 2 a shared radio, every other a single one.
+-- Second witness of `seats`: 01's Open, Close and side event once more in words and numbers: 13 to 18, and 23 of the event. proofs/InWords
+-- holds the definitions of Opening and Radio to it; none of them is cited. The codes: call types 0 Idle, 1 Rxonly, 2 TxRx, 3 Coupling;
+-- kinds 1 a pair, 2 a shared radio, every other a single one.
 use Prim.Native.Nat.{ℕ, _<_}
 use mathlib.Core.Path.{_≡_}
 use mathlib.Core.Bool.{true, false}

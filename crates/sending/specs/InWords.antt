@@ -1,5 +1,5 @@
--- Second witness of `sending`: when a tick with its reports is turned away (01's 24, 02's 26), in numbers, and which report numbers it moves. proofs/InWords holds the definitions of
--- Sending to it; none of them is cited.
+-- Second witness of `sending`: when a tick with its reports is turned away (01's 24, 02's 26), in numbers, and which report numbers it
+-- moves. proofs/InWords holds the definitions of Sending to it; none of them is cited.
 use Prim.Native.Nat.{ℕ, _<_}
 use mathlib.Core.Path.{_≡_}
 use mathlib.Core.Bool.{Bool, true, false}

@@ -1,4 +1,5 @@
--- Second witness of `writer`: when a writer turns a message away, in numbers. proofs/InWords holds the definitions of Writing to it; none of them is cited.
+-- Second witness of `writer`: when a writer turns a message away, in numbers. proofs/InWords holds the definitions of Writing to it; none
+-- of them is cited.
 use Prim.Native.Nat.{ℕ, _+_, _<_}
 use mathlib.Core.Path.{_≡_}
 use mathlib.Core.List.{List}
