@@ -3,11 +3,12 @@
 -- cites the definitions of crate `air`.
 use Prim.Native.Nat.{ℕ, suc, _≤_, _<_}
 use mathlib.Core.Path.{_≡_}
-use mathlib.Core.Bool.{false, cond, _||_}
+use mathlib.Core.Bool.{true, false, cond, _||_}
 use mathlib.Core.List.{List, [], _∷_}
+use mathlib.Core.Logic.{_↔_}
 use lib.Dec.{eqb}
 use Rattle.packet.specs.declared.message.Tx.{Tx}
-use Rattle.record.specs.Record.{freshBench}
+use Rattle.record.specs.Record.{seatOf, freshBench}
 use Rattle.hearing.specs.Hearing.{messageIn}
 use Rattle.bench.specs.Step.{Call, opening, closing, packet, tick, report, received, transmitter, side, totals, keeping, after, acceptedCalls}
 use Rattle.record.specs.declared.setup.Setup.{Setup}
@@ -42,7 +43,10 @@ abbrev pub spellOf : (n : ℕ) → Setup → (run : List Call) → Spell
 spellOf n setup run = spellThrough n 1 (record { type = 0; since = 0 }) (acceptedCalls keeping (freshBench setup) run)
 
 pub record BeganFirst : Type 0 where
-  -- a seat that takes part keys what its present keying keys
+  -- "An open seat takes part if its last accepted packet since opening has PTT on and PM 0": from the calls, exactly the seats that have a keying
+  pub takes-part : (setup : Setup) (run : List Call) (n : ℕ) → let b = after keeping (freshBench setup) run in
+      TakesPart b n ↔ ((b .healthy ≡ true) × (seatOf (b .seats) n .opened ≡ true) × (1 ≤ spellOf n setup run .type))
+  -- and they key what it keys
   pub keyed : (setup : Setup) (run : List Call) (n : ℕ) → let b = after keeping (freshBench setup) run in TakesPart b n → spellOf n setup run .type ≡ lastField b n .ptt
   -- and of two the one that began earlier stands before the other
   pub earlier : (setup : Setup) (run : List Call) (m n : ℕ) → let b = after keeping (freshBench setup) run in TakesPart b m → TakesPart b n

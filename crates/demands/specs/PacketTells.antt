@@ -3,6 +3,7 @@
 -- of InWords of `seats` (its seat) and `hearing` (its message).
 use Prim.Native.Nat.{ℕ}
 use mathlib.Core.Path.{_≡_}
+use mathlib.Core.Bool.{true}
 use mathlib.Core.List.{List}
 use lib.ListN.{length}
 use Rattle.base.specs.Bytes.{Bytes}
@@ -14,8 +15,9 @@ use Rattle.packet.specs.declared.message.Tx.{Tx}
 use Rattle.record.specs.Record.{seatOf}
 use Rattle.seats.specs.InWords.{SeatBarred}
 use Rattle.hearing.specs.InWords.{MessageBarred, Heeded}
-use Rattle.bench.specs.Step.{packet, heard, keeping}
+use Rattle.bench.specs.Step.{Call, opening, packet, heard, keeping}
 use Rattle.record.specs.declared.whole.Bench.{Bench}
+use Rattle.seats.specs.declared.opening.Request.{Request}
 use Rattle.hearing.specs.declared.hearing.Hearing.{Hearing}
 use Rattle.demands.specs.ExactAll.{packetOrder}
 use Rattle.demands.specs.Unreadable.{Unreadable}
@@ -32,3 +34,6 @@ pub record PacketTells : Type 0 where
   -- accepted, it was read, and its message is heeded
   pub heeded : (b : Bench) (n : ℕ) (p : List ℕ) (h : Hearing) (sound : List ℕ) → length (b .seats) ≡ 8 → keeping b (packet n p) .answer ≡ accepted (heard h sound)
       → (m : Tx) × (readTx (b .setup .ext) p ≡ accepted m) × Heeded b n m h (keeping b (packet n p) .bench)
+  -- "its last accepted packet since opening": what a seat has heard stays through every other call, as long as it is open
+  pub heard-stays : (b : Bench) (c : Call) (n : ℕ) → length (b .seats) ≡ 8 → ((p : List ℕ) → c ≡ packet n p → ⊥) → ((r : Request) → c ≡ opening n r → ⊥)
+      → let next = seatOf (keeping b c .bench .seats) n in next .opened ≡ true → (next .heard ≡ seatOf (b .seats) n .heard) × (next .totals ≡ seatOf (b .seats) n .totals)

@@ -28,10 +28,16 @@ pub record IsReport (b : Bench) (n timestamp : ℕ) (sound bytes : List ℕ) : T
   pub type-r2s : sound ≡ [] → getD bytes 1 0 ≡ 123
   pub type-audio : (sound ≡ [] → ⊥) → getD bytes 1 0 ≡ 8
 
--- Its number was that of the seat, which goes up by one; "SSRC and first sequence number for its reports" are the opening's.
+-- Its number was that of the seat, which goes up by one, and no other.
 pub record OnlyItsNumber (n : ℕ) (old new : List ℕ) : Type 0 where
   pub its-own : OneUp (entryOf 0 old n) (entryOf 0 new n)
   pub others : (k : ℕ) → (k ≡ n → ⊥) → entryOf 0 new k ≡ entryOf 0 old k
+
+-- neither an opening, a tick nor a report
+pub record MovesNoNumber (c : Call) : Type 0 where
+  pub no-opening : (n : ℕ) (r : Request) → c ≡ opening n r → ⊥
+  pub no-tick : (ms timestamp room : ℕ) → c ≡ tick ms timestamp room → ⊥
+  pub no-report : (n timestamp : ℕ) (sound : List ℕ) (room : ℕ) → c ≡ report n timestamp sound room → ⊥
 
 -- A bench that calls lead to, where numbers fit their bytes.
 pub record Reports (b : Bench) : Type 0 where
@@ -47,8 +53,10 @@ pub record Reports (b : Bench) : Type 0 where
       → keeping b (report n timestamp sound room) .answer ≡ accepted (written bytes) → OnlyItsNumber n (b .sequences) (keeping b (report n timestamp sound room) .bench .sequences)
   pub due-moved : (ms timestamp room : ℕ) (closed due : List Bool) (records : List (List ℕ))
       → keeping b (tick ms timestamp room) .answer ≡ accepted (ticked closed due records) → DueAlone due (b .sequences) (keeping b (tick ms timestamp room) .bench .sequences)
+  -- ".. SSRC and first sequence number for its reports", of the opening; no other call moves a number
   pub first-number : (n : ℕ) (r : Request) (id : ℕ) → keeping b (opening n r) .answer ≡ accepted (own id) → let next = keeping b (opening n r) .bench in
-      (entryOf 0 (next .sequences) n ≡ r .sequence) × (seatOf (next .seats) n .ssrc ≡ r .ssrc)
+      (entryOf 0 (next .sequences) n ≡ r .sequence) × (seatOf (next .seats) n .ssrc ≡ r .ssrc) × ((k : ℕ) → (k ≡ n → ⊥) → entryOf 0 (next .sequences) k ≡ entryOf 0 (b .sequences) k)
+  pub none-moved : (c : Call) → MovesNoNumber c → keeping b c .bench .sequences ≡ b .sequences
 
 abbrev pub ReportTells : Type 0
 ReportTells = (setup : Setup) (cs : List Call) → setup .ext < 2 ^ 16 → AllInRange cs → Reports (after keeping (freshBench setup) cs)

@@ -17,7 +17,7 @@ use Rattle.record.specs.declared.seat.Seat.{Seat}
 use Rattle.record.specs.declared.whole.Bench.{Bench}
 use Rattle.seats.specs.Opening.{callCode, ownId, asksCoupling, holdsCoupling, timesAllowed, anyCoupling, openRefusals, seatRefusals}
 use Rattle.seats.specs.Radio.{sideRefusals}
-use Rattle.seats.specs.InWords.{NoSeat, SeatBarred, no-seat, not-open, OpenBarred, no-such-seat, open-already, too-short, too-long, too-few, too-many, lesson-coupling, coupling-taken, OwnId, keys, listens, Coded, idle, rx-only, tx-rx, coupling, JustOpened, EventBarred, single}
+use Rattle.seats.specs.InWords.{NoSeat, SeatBarred, no-seat, not-open, OpenBarred, no-such-seat, open-already, too-short, too-long, too-few, too-many, lesson-coupling, coupling-taken, OwnId, keys, listens, Coded, idle, rx-only, tx-rx, coupling, AsAsked, JustOpened, EventBarred, single}
 use Rattle.seats.specs.declared.opening.CallType.{CallType}
 use Rattle.seats.specs.declared.opening.CallType.the-variants.{Idle, RxOnly, TxRx, Coupling}
 use Rattle.seats.specs.declared.opening.Request.{Request}
@@ -171,9 +171,13 @@ coded RxOnly = rx-only
 coded TxRx = tx-rx
 coded Coupling = coupling
 
+pub as-asked : (r : Request) → AsAsked r (openedSeat (callCode (r .call)) (r .period) (r .multiplier) (r .ssrc))
+unfolding openedSeat
+as-asked r = record { call = coded (r .call); period = refl; multiplier = refl; ssrc = refl }
+
 pub just-opened : (r : Request) → JustOpened r (openedSeat (callCode (r .call)) (r .period) (r .multiplier) (r .ssrc))
 unfolding openedSeat
-just-opened r = record { is-open = refl; call = coded (r .call); period = refl; multiplier = refl; ssrc = refl; heard-nothing = refl; all-zero = refl }
+just-opened r = record { is-open = refl; as-asked = as-asked r; heard-nothing = refl; all-zero = refl }
 
 -- ---- 23 of the event
 

@@ -49,13 +49,17 @@ pub data Coded : CallType → (code : ℕ) → Type 0 where
   tx-rx : Coded TxRx 2
   coupling : Coded Coupling 3
 
--- "A seat just opened has heard nothing; its last field counts as all zero without items."
-pub record JustOpened (r : Request) (s : Seat) : Type 0 where
-  pub is-open : s .opened ≡ true
+-- "Open a seat 1 to 8 with a call type .., R2S period .., multiplier .., SSRC .. for its reports"
+pub record AsAsked (r : Request) (s : Seat) : Type 0 where
   pub call : Coded (r .call) (s .call)
   pub period : s .period ≡ r .period
   pub multiplier : s .multiplier ≡ r .multiplier
   pub ssrc : s .ssrc ≡ r .ssrc
+
+-- "A seat just opened has heard nothing; its last field counts as all zero without items."
+pub record JustOpened (r : Request) (s : Seat) : Type 0 where
+  pub is-open : s .opened ≡ true
+  pub as-asked : AsAsked r s
   pub heard-nothing : s .heard .any ≡ false
   pub all-zero : s .heard .field ≡ record { ptt = 0; id = 0; pm = false; ptts = false; delayed = false; delay = 0; sided = false; standby = false }
 

@@ -3,6 +3,7 @@ use Prim.Native.Nat.{ℕ, zero, suc, _≤_, _<_}
 use mathlib.Core.Path.{_≡_, refl, sym, ap, subst, _∙_}
 use mathlib.Core.Bool.{Bool, true, false, cond, not, _&&_, _||_, false≢true}
 use mathlib.Core.List.{List, [], _∷_}
+use mathlib.Core.Logic.{_↔_}
 use native.Mathlib.Omega.{arith}
 use lib.Dec.{ltb, eqb}
 use lib.ListN.{length}
@@ -15,7 +16,8 @@ use Rattle.record.specs.Record.{closedSeat, openedSeat, freshBench, seatOf}
 use Rattle.record.proofs.Seats.{seat-in-range, open-is-seat, seat-of-eight-closed}
 use Rattle.seats.specs.Opening.{callCode}
 use Rattle.seats.specs.Ticking.{nothingLeft, aged, tickedSeat}
-use Rattle.air.specs.Air.{keyed}
+use Rattle.air.specs.Air.{keyed, takesPart}
+use Rattle.air.proofs.InWords.{part-is}
 use Rattle.air.specs.Order.{begins, toLast, orderAfter}
 use Rattle.hearing.specs.Hearing.{fieldHeard, heardSeat, messageIn}
 use Rattle.hearing.proofs.Accepted.{packet-accepted}
@@ -315,6 +317,17 @@ module _ (setup : Setup) (run : List Call) where
       ledger .1 .typed n (p .is-open)
       ∙ simp (p .unmuted, lt-ltb 0 (lastField now n .ptt) (p .not-off), le-leb (lastField now n .ptt) 5 (p .known))
 
+  takes-part : (n : ℕ) → TakesPart now n ↔ ((now .healthy ≡ true) × (seatOf (now .seats) n .opened ≡ true) × (1 ≤ spellOf n setup run .type))
+  takes-part n = (
+    λ p. (p .healthy, p .is-open, (let e = is-keyed n p in let l = p .not-off in omega arith)),
+    λ h. part-is now n (keys-on n (h .0) (h .1) (keyed (lastField now n)) refl (let e = ledger .1 .typed n (h .1) in let l = h .2 in omega arith)),
+  )
+    where
+      keys-on : (n : ℕ) → now .healthy ≡ true → seatOf (now .seats) n .opened ≡ true → (t : Bool) → keyed (lastField now n) ≡ t → 1 ≤ cond t (lastField now n .ptt) 0
+          → takesPart (now .healthy) (seatOf (now .seats) n) ≡ true
+      keys-on n healthy up true e l = unfold takesPart in simp (healthy, up, e)
+      keys-on n healthy up false e l = absurd (omega arith)
+
   keys-some : (n : ℕ) → TakesPart now n → spellOf n setup run .type ≡ 0 → ⊥
   keys-some n p z = let e = is-keyed n p in let l = p .not-off in omega arith
 
@@ -336,4 +349,4 @@ module _ (setup : Setup) (run : List Call) where
       by-case false e = ltb-false (spellOf m setup run .since) (spellOf n setup run .since) e
 
 pub began-first : BeganFirst
-began-first = record { keyed = is-keyed; earlier = is-earlier; first = is-first }
+began-first = record { takes-part = takes-part; keyed = is-keyed; earlier = is-earlier; first = is-first }

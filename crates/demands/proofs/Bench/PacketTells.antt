@@ -1,7 +1,10 @@
 -- When a packet is turned away, and what it answers and leaves, in 01's words.
 use Prim.Native.Nat.{ℕ, _≤_}
-use mathlib.Core.Path.{_≡_, refl, sym, subst, _∙_}
+use mathlib.Core.Path.{_≡_, refl, sym, ap, subst, _∙_}
+use mathlib.Core.Bool.{Bool, true, false, cond, false≢true}
 use mathlib.Core.List.{List, _++_}
+use lib.Dec.{eqb}
+use borrow.Author.Tests.{ne-eqb}
 use native.Mathlib.Omega.{arith}
 use lib.ListN.{length}
 use Rattle.base.specs.Bytes.{Bytes}
@@ -13,8 +16,9 @@ use Rattle.reader.specs.Reading.{readerRefusals, messageOf, asTx, read, readTx}
 use Rattle.reader.proofs.Passed.{passed}
 use Rattle.packet.specs.declared.message.Direction.the-variants as direction
 use Rattle.packet.specs.declared.message.Tx.{Tx}
-use Rattle.record.specs.Record.{seatOf}
+use Rattle.record.specs.Record.{closedSeat, seatOf}
 use Rattle.seats.specs.Opening.{seatRefusals}
+use Rattle.seats.specs.Ticking.{nothingLeft, aged, tickedSeat}
 use Rattle.seats.specs.InWords.{SeatBarred}
 use Rattle.seats.proofs.InWords.{seat-agrees, seat-range}
 use Rattle.hearing.specs.Hearing.{messageIn, messageRefusals, packetRefusals, hearing, heardBench}
@@ -23,15 +27,19 @@ use Rattle.air.specs.Air.{aired}
 use Rattle.hearing.proofs.Accepted.{packet-accepted, type-known}
 use Rattle.hearing.proofs.InWords.{message-agrees, message-range}
 use Rattle.hearing.proofs.HeededInWords.{heeded}
-use Rattle.bench.specs.Step.{packet, heard, keeping}
+use Rattle.bench.specs.Step.{Call, opening, closing, packet, tick, report, received, transmitter, side, totals, heard, keeping}
+use Rattle.record.specs.declared.seat.Seat.{Seat}
 use Rattle.record.specs.declared.whole.Bench.{Bench}
+use Rattle.seats.specs.declared.opening.Request.{Request}
 use Rattle.hearing.specs.declared.hearing.Hearing.{Hearing}
 use Rattle.demands.specs.ExactCalls.{refusalsOf}
 use Rattle.demands.specs.ExactAll.{packetOrder}
+use Rattle.demands.specs.SeatAfter.{seatAfter}
 use Rattle.demands.specs.Unreadable.{Unreadable}
 use Rattle.demands.specs.PacketTells.{PacketBarred, its-seat, its-bytes, its-message, PacketTells}
-use Rattle.demands.proofs.Demand1.Calls.{was-accepted, accepted-bench}
+use Rattle.demands.proofs.Demand1.Calls.{was-accepted, after-call, accepted-bench}
 use Rattle.demands.proofs.Demand2.Unreadable.{reader-agrees, reader-range}
+use Rattle.demands.proofs.Bench.SeatAfter.{seat-after}
 use Rattle.demands.proofs.Bench.Limits.{of-call}
 
 -- ---- the bytes that are read
@@ -111,5 +119,52 @@ module _ (b : Bench) (n : ℕ) (p : List ℕ) (h : Hearing) (sound : List ℕ) (
       let left = heeded b n p eight (passed .is-seat) (passed .not-late) in
       subst (λ (x : Bench). Heeded b n (messageIn p) h x) (sym (accepted-bench b (packet n p) clear)) (subst (λ (x : Hearing). Heeded b n (messageIn p) x (aired (heardBench b n (messageIn p)))) answer left)
 
+-- ---- what a seat has heard
+
+module _ (n : ℕ) (s : Seat) where
+  abbrev Kept : Seat → Type 0
+  Kept next = next .opened ≡ true → (next .heard ≡ s .heard) × (next .totals ≡ s .totals)
+
+  ticked-keeps : (ms : ℕ) → Kept (tickedSeat ms s)
+  unfolding tickedSeat
+  ticked-keeps ms = by-tests (s .opened) (nothingLeft ms s)
+    where
+      by-tests : (a c : Bool) → Kept (cond a (cond c closedSeat (aged ms s)) s)
+      by-tests true true up = absurd (false≢true up)
+      by-tests true false up = (refl, refl)
+      by-tests false c up = (refl, refl)
+
+  -- a call for another seat, or one that closes it
+  closed-keeps : (t : Bool) → Kept (cond t closedSeat s)
+  closed-keeps true up = absurd (false≢true up)
+  closed-keeps false up = (refl, refl)
+
+  other-keeps : (m : ℕ) (next : Seat) → (n ≡ m → ⊥) → Kept (cond (eqb n m) next s)
+  other-keeps m next other = rw (ne-eqb n m other) (λ up. (refl, refl))
+
+  call-keeps : (c : Call) → ((p : List ℕ) → c ≡ packet n p → ⊥) → ((r : Request) → c ≡ opening n r → ⊥) → Kept (seatAfter c n s)
+  call-keeps (opening m r) no-packet no-opening = other-keeps m _ (λ e. no-opening r (ap (λ (k : ℕ). opening k r) (sym e)))
+  call-keeps (closing m) no-packet no-opening = closed-keeps (eqb n m)
+  call-keeps (packet m p) no-packet no-opening = other-keeps m _ (λ e. no-packet p (ap (λ (k : ℕ). packet k p) (sym e)))
+  call-keeps (tick ms timestamp room) no-packet no-opening = ticked-keeps ms
+  call-keeps (report m timestamp sound room) no-packet no-opening = λ up. (refl, refl)
+  call-keeps (received signals level) no-packet no-opening = λ up. (refl, refl)
+  call-keeps (transmitter healthy) no-packet no-opening = λ up. (refl, refl)
+  call-keeps (side standby) no-packet no-opening = λ up. (refl, refl)
+  call-keeps (totals m) no-packet no-opening = λ up. (refl, refl)
+
+heard-stays : (b : Bench) (c : Call) (n : ℕ) → length (b .seats) ≡ 8 → ((p : List ℕ) → c ≡ packet n p → ⊥) → ((r : Request) → c ≡ opening n r → ⊥)
+    → Kept n (seatOf (b .seats) n) (seatOf (keeping b c .bench .seats) n)
+heard-stays b c n eight no-packet no-opening =
+    after-call (λ (x : Bench). Kept n (seatOf (b .seats) n) (seatOf (x .seats) n)) b c (λ up. (refl, refl))
+    (λ clear.
+    subst (Kept n (seatOf (b .seats) n)) (sym (ap (λ (x : Bench). seatOf (x .seats) n) (sym (accepted-bench b c clear)) ∙ seat-after b c eight clear n))
+    (call-keeps n (seatOf (b .seats) n) c no-packet no-opening))
+
 pub packet-tells : PacketTells
-packet-tells = record { turned-away = turned; heeded = λ b n p h sound eight e. (messageIn p, was-read b n p h sound eight e, is-heeded b n p h sound eight e) }
+packet-tells =
+    record {
+      turned-away = turned;
+      heeded = λ b n p h sound eight e. (messageIn p, was-read b n p h sound eight e, is-heeded b n p h sound eight e);
+      heard-stays = heard-stays;
+    }

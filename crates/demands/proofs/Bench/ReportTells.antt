@@ -15,7 +15,7 @@ use Rattle.packet.specs.Packet.{payload}
 use Rattle.writer.specs.Writing.{fromRx, headOf, encode}
 use Rattle.record.specs.Record.{noSuchSeat, entryOf, withEntry, withSequences, closedSeat, seatOf, freshBench, openedSeat}
 use Rattle.record.proofs.Seats.{entry-put, entry-changed, flag-is-seat, entry-none, entry-there}
-use Rattle.seats.specs.Opening.{openedBench, seatRefusals}
+use Rattle.seats.specs.Opening.{openedBench, closedBench, seatRefusals}
 use Rattle.seats.specs.Ticking.{isDue, dueSeats, tickedBench}
 use Rattle.seats.proofs.TickingLaws.{due-open}
 use Rattle.air.specs.Air.{keyings, benchAir}
@@ -24,7 +24,7 @@ use Rattle.sending.proofs.BySeat.{seat-record}
 use Rattle.seats.proofs.Accepted.{open-accepted}
 use Rattle.reporting.specs.Reporting.{reportOf, reportBytes, reportRefusals, reportSaid, reportedBench, nextSequence}
 use Rattle.reporting.proofs.Accepted.{report-accepted}
-use Rattle.bench.specs.Step.{Call, opening, tick, report, own, ticked, written, keeping, after}
+use Rattle.bench.specs.Step.{Call, opening, closing, packet, tick, report, received, transmitter, side, totals, own, ticked, written, keeping, after}
 use Rattle.record.specs.declared.setup.Setup.{Setup}
 use Rattle.record.specs.declared.seat.Seat.{Seat}
 use Rattle.record.specs.declared.whole.Bench.{Bench}
@@ -39,8 +39,10 @@ use Rattle.reporting.specs.InWords.{OneUp}
 use Rattle.reporting.proofs.InWords.{tells, one-up}
 use Rattle.sending.specs.InWords.{DueAlone}
 use Rattle.sending.proofs.InWords.{due-alone}
-use Rattle.demands.specs.ReportTells.{IsReport, OnlyItsNumber, ReportTells}
-use Rattle.demands.proofs.Demand1.Calls.{was-accepted, accepted-bench}
+use Rattle.demands.specs.ReportTells.{IsReport, MovesNoNumber, OnlyItsNumber, ReportTells}
+use Rattle.demands.proofs.Demand1.Calls.{benchAfter, was-accepted, accepted-bench}
+use Rattle.hearing.specs.Hearing.{heardBench}
+use Rattle.demands.proofs.Bench.EventsSet.{stays}
 use Rattle.demands.proofs.Demand2.RoundTrip.{reports-read-back}
 use Rattle.demands.proofs.Bench.AirKept.{air-kept}
 use Rattle.demands.proofs.Bench.Kept.{kept-throughout}
@@ -182,7 +184,7 @@ module _ (b : Bench) (known : Reached b) where
   put-at none entries m n entry eight real t e = entry-put none entries m n entry eight real ∙ rw e
 
   first-number : (n : ℕ) (r : Request) (id : ℕ) → keeping b (opening n r) .answer ≡ accepted (own id) → let next = keeping b (opening n r) .bench in
-      (entryOf 0 (next .sequences) n ≡ r .sequence) × (seatOf (next .seats) n .ssrc ≡ r .ssrc)
+      (entryOf 0 (next .sequences) n ≡ r .sequence) × (seatOf (next .seats) n .ssrc ≡ r .ssrc) × ((k : ℕ) → (k ≡ n → ⊥) → entryOf 0 (next .sequences) k ≡ entryOf 0 (b .sequences) k)
   unfolding openedBench openedSeat seatOf
   first-number n r id e =
       let none = was-accepted b (opening n r) (own id) e .0 in
@@ -190,6 +192,7 @@ module _ (b : Bench) (known : Reached b) where
       let real = open-accepted (b .setup) n (b .seats) r none .is-seat in (
         ap (λ (x : Bench). entryOf 0 (x .sequences) n) next ∙ put-at 0 (b .sequences) n n (r .sequence) (known .kept .eight-sequences) real true (eq-eqb n n refl),
         ap (λ (x : Bench). seatOf (x .seats) n .ssrc) next ∙ ap (λ (s : Seat). s .ssrc) (put-at closedSeat (b .seats) n n _ (known .kept .eight-seats) real true (eq-eqb n n refl)),
+        λ k other. ap (λ (x : Bench). entryOf 0 (x .sequences) k) next ∙ put-at 0 (b .sequences) n k (r .sequence) (known .kept .eight-sequences) real false (ne-eqb k n other),
       )
 
   number-moved : (n timestamp : ℕ) (sound : List ℕ) (room : ℕ) (bytes : List ℕ)
@@ -216,6 +219,21 @@ module _ (b : Bench) (known : Reached b) where
       subst (DueAlone due (b .sequences)) (sym (ap (λ (x : Bench). x .sequences) (accepted-bench b (tick ms timestamp room) (passed .0)) ∙ ap (λ (l : List Bool). oneFurther l (b .sequences)) are))
       (due-alone due (b .sequences) (known .kept .eight-sequences) (known .kept .sequences-fit))
 
+none-moved : (b : Bench) (c : Call) → MovesNoNumber c → keeping b c .bench .sequences ≡ b .sequences
+unfolding closedBench heardBench
+none-moved b c none = stays (λ (x : Bench). x .sequences) b c (by-call c none)
+  where
+    by-call : (c : Call) → MovesNoNumber c → benchAfter b c .sequences ≡ b .sequences
+    by-call (opening n r) none = absurd (none .no-opening n r refl)
+    by-call (closing n) none = refl
+    by-call (packet n p) none = refl
+    by-call (tick ms timestamp room) none = absurd (none .no-tick ms timestamp room refl)
+    by-call (report n timestamp sound room) none = absurd (none .no-report n timestamp sound room refl)
+    by-call (received signals level) none = refl
+    by-call (transmitter healthy) none = refl
+    by-call (side standby) none = refl
+    by-call (totals n) none = refl
+
 -- ---- every run
 
 reached : (setup : Setup) (cs : List Call) → setup .ext < 2 ^ 16 → AllInRange cs → Reached (after keeping (freshBench setup) cs)
@@ -232,4 +250,4 @@ pub report-tells : ReportTells
 report-tells setup cs ext-fits fit =
     let b = after keeping (freshBench setup) cs in
     let known = reached setup cs ext-fits fit in
-    record { one = one b known; by-tick = by-tick b known; number-moved = number-moved b known; due-moved = due-moved b known; first-number = first-number b known }
+    record { one = one b known; by-tick = by-tick b known; number-moved = number-moved b known; due-moved = due-moved b known; first-number = first-number b known; none-moved = none-moved b }

@@ -23,9 +23,9 @@ use Rattle.record.specs.declared.seat.Seat.{Seat}
 use Rattle.record.specs.declared.whole.Bench.{Bench}
 use Rattle.seats.specs.declared.opening.Request.{Request}
 use Rattle.demands.specs.SeatAfter.{seatAfter, seatThrough}
-use Rattle.seats.specs.InWords.{JustOpened}
+use Rattle.seats.specs.InWords.{AsAsked, JustOpened}
 use Rattle.seats.proofs.InWords as opening-in-words
-use Rattle.demands.specs.SilenceAndDue.{Clock, stopped, started, clockWith, clockAfter, clockThrough, clockOf, TickTells, SilenceAndDue}
+use Rattle.demands.specs.SilenceAndDue.{Clock, stopped, started, clockWith, lasts, clockAfter, clockThrough, clockOf, TickTells, SilenceAndDue}
 use Rattle.demands.proofs.Demand1.Calls.{was-accepted}
 use Rattle.demands.proofs.Bench.SeatAfter.{seat-after, seat-story}
 
@@ -33,10 +33,9 @@ use Rattle.demands.proofs.Bench.SeatAfter.{seat-after, seat-story}
 
 -- what an open seat keeps, against what its clock notes
 record Timed (s : Seat) (k : Clock) : Type 0 where
-  period : s .period ≡ k .period
-  multiplier : s .multiplier ≡ k .multiplier
-  left : s .left + k .quiet ≡ k .period * k .multiplier
-  phase : s .phase ≡ cond (eqb (k .period) 0) 0 (k .age % k .period)
+  as-asked : AsAsked (k .asked) s
+  left : s .left + k .quiet ≡ lasts k
+  phase : s .phase ≡ cond (eqb (k .asked .period) 0) 0 (k .age % k .asked .period)
 
 record Times (s : Seat) (k : Clock) : Type 0 where
   runs : s .opened ≡ k .runs
@@ -59,8 +58,7 @@ opened-times r =
     record {
       runs = refl;
       timed = λ up. record {
-        period = refl;
-        multiplier = refl;
+        as-asked = opening-in-words.as-asked r;
         left = nothing-passed (r .period * r .multiplier);
         phase = sym (ap (cond (eqb (r .period) 0) 0) (zero-mod (r .period)) ∙ either-way (eqb (r .period) 0) 0);
       };
@@ -76,10 +74,17 @@ heard-times s m k old =
       runs = old .runs;
       timed = λ up.
           let t = old .timed up in
-          record { period = t .period; multiplier = t .multiplier; left = all-left (s .period) (s .multiplier) (t .period) (t .multiplier); phase = t .phase };
+          record {
+            as-asked = still-asked (t .as-asked);
+            left = all-left (s .period) (s .multiplier) (t .as-asked .period) (t .as-asked .multiplier);
+            phase = t .phase;
+          };
     }
   where
-    all-left : (p q : ℕ) → p ≡ k .period → q ≡ k .multiplier → p * q + 0 ≡ k .period * k .multiplier
+    still-asked : AsAsked (k .asked) s → AsAsked (k .asked) (heardSeat s m)
+    still-asked a = record { call = a .call; period = a .period; multiplier = a .multiplier; ssrc = a .ssrc }
+
+    all-left : (p q : ℕ) → p ≡ k .asked .period → q ≡ k .asked .multiplier → p * q + 0 ≡ lasts k
     all-left p q e f = ap₂ (λ (x y : ℕ). x * y + 0) e f ∙ (omega arith)
 
 -- nothing is left exactly if the quiet lasted for all of it
@@ -90,28 +95,27 @@ same-end left quiet ms whole e = by-case (leb left ms) refl
     by-case true h = sym (le-leb whole (quiet + ms) (let l = leb-true left ms h in omega arith))
     by-case false h = sym (lt-leb whole (quiet + ms) (let l = leb-false left ms h in omega arith))
 
-ticked-times : (ms : ℕ) (s : Seat) (k : Clock) → Times s k → Times (tickedSeat ms s) (cond (leb (k .period * k .multiplier) (k .quiet + ms)) stopped (clockWith k (k .quiet + ms) (k .age + ms)))
+ticked-times : (ms : ℕ) (s : Seat) (k : Clock) → Times s k → Times (tickedSeat ms s) (cond (leb (lasts k) (k .quiet + ms)) stopped (clockWith k (k .quiet + ms) (k .age + ms)))
 unfolding tickedSeat
-ticked-times ms s k old = by-tests (s .opened) (leb (k .period * k .multiplier) (k .quiet + ms)) refl refl
+ticked-times ms s k old = by-tests (s .opened) (leb (lasts k) (k .quiet + ms)) refl refl
   where
     younger : (left quiet whole : ℕ) → ms < left → left + quiet ≡ whole → left - ms + (quiet + ms) ≡ whole
     younger left quiet whole h e = omega arith
 
-    by-tests : (opened over : Bool) → s .opened ≡ opened → leb (k .period * k .multiplier) (k .quiet + ms) ≡ over
+    by-tests : (opened over : Bool) → s .opened ≡ opened → leb (lasts k) (k .quiet + ms) ≡ over
         → Times (cond opened (cond (nothingLeft ms s) closedSeat (aged ms s)) s) (cond over stopped (clockWith k (k .quiet + ms) (k .age + ms)))
     by-tests true true e h =
         let t = old .timed (sym (old .runs) ∙ e) in
-        rw (same-end (s .left) (k .quiet) ms (k .period * k .multiplier) (t .left) ∙ h) shut-times
+        rw (same-end (s .left) (k .quiet) ms (lasts k) (t .left) ∙ h) shut-times
     by-tests true false e h =
         let t = old .timed (sym (old .runs) ∙ e) in
-        let some = same-end (s .left) (k .quiet) ms (k .period * k .multiplier) (t .left) ∙ h in
+        let some = same-end (s .left) (k .quiet) ms (lasts k) (t .left) ∙ h in
         rw some (record {
           runs = old .runs;
           timed = λ up. record {
-            period = t .period;
-            multiplier = t .multiplier;
+            as-asked = record { call = t .as-asked .call; period = t .as-asked .period; multiplier = t .as-asked .multiplier; ssrc = t .as-asked .ssrc };
             left = younger (s .left) (k .quiet) _ (leb-false (s .left) ms some) (t .left);
-            phase = ap (λ (q : ℕ). cond (eqb q 0) 0 ((s .phase + ms) % q)) (t .period) ∙ further (k .period) ms (s .phase) (k .age) (t .phase);
+            phase = ap (λ (q : ℕ). cond (eqb q 0) 0 ((s .phase + ms) % q)) (t .as-asked .period) ∙ further (k .asked .period) ms (s .phase) (k .age) (t .phase);
           };
         })
     by-tests false true e h = record { runs = e; timed = λ up. absurd (false≢true up) }
@@ -162,13 +166,13 @@ runs-out ms age (suc p) phase e =
     (λ h. subst (λ (q : ℕ). suc p ≤ q + ms) is h, λ h. subst (λ (q : ℕ). suc p ≤ q + ms) (sym is) h)
 
 module _ (ms : ℕ) (s : Seat) (k : Clock) (times : Times s k) where
-  over : k .runs ≡ true → nothingLeft ms s ≡ leb (k .period * k .multiplier) (k .quiet + ms)
-  over up = same-end (s .left) (k .quiet) ms (k .period * k .multiplier) (times .timed up .left)
+  over : k .runs ≡ true → nothingLeft ms s ≡ leb (lasts k) (k .quiet + ms)
+  over up = same-end (s .left) (k .quiet) ms (lasts k) (times .timed up .left)
 
-  out : k .runs ≡ true → (s .period ≤ s .phase + ms) ↔ (k .period ≤ k .age % k .period + ms)
-  out up = subst (λ (q : ℕ). (q ≤ s .phase + ms) ↔ (k .period ≤ k .age % k .period + ms)) (sym (times .timed up .period)) (runs-out ms (k .age) (k .period) (s .phase) (times .timed up .phase))
+  out : k .runs ≡ true → (s .period ≤ s .phase + ms) ↔ (k .asked .period ≤ k .age % k .asked .period + ms)
+  out up = subst (λ (q : ℕ). (q ≤ s .phase + ms) ↔ (k .asked .period ≤ k .age % k .asked .period + ms)) (sym (times .timed up .as-asked .period)) (runs-out ms (k .age) (k .asked .period) (s .phase) (times .timed up .phase))
 
-  closes : (fallsSilent ms s ≡ true) ↔ ((k .runs ≡ true) × (k .period * k .multiplier ≤ k .quiet + ms))
+  closes : (fallsSilent ms s ≡ true) ↔ ((k .runs ≡ true) × (lasts k ≤ k .quiet + ms))
   unfolding fallsSilent
   closes = (
     λ e.
@@ -177,7 +181,7 @@ module _ (ms : ℕ) (s : Seat) (k : Clock) (times : Times s k) where
     λ h. simp (times .runs ∙ h .0, over (h .0) ∙ le-leb _ _ (h .1)),
   )
 
-  is-due : (isDue ms s ≡ true) ↔ ((k .runs ≡ true) × (k .quiet + ms < k .period * k .multiplier) × (k .period ≤ k .age % k .period + ms))
+  is-due : (isDue ms s ≡ true) ↔ ((k .runs ≡ true) × (k .quiet + ms < lasts k) × (k .asked .period ≤ k .age % k .asked .period + ms))
   unfolding isDue
   is-due = (
     λ e.
@@ -221,4 +225,4 @@ just-opened b n r id eight e =
     subst (JustOpened r) (sym is) (opening-in-words.just-opened r)
 
 pub silence-and-due : SilenceAndDue
-silence-and-due = record { just-opened = just-opened; which-open = λ setup run n. run-times setup run n .runs; tick-tells = tick-tells }
+silence-and-due = record { just-opened = just-opened; as-asked = λ setup run n up. run-times setup run n .timed up .as-asked; which-open = λ setup run n. run-times setup run n .runs; tick-tells = tick-tells }
