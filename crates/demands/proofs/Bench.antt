@@ -22,5 +22,6 @@ pub mod TotalsBound
 pub mod DueAtLeastOnce
 pub mod OnTheAir
 pub mod KeyingsInOrder
+pub mod Spells
 pub mod BeganFirst
 pub mod ReportTells
