@@ -8,7 +8,7 @@ use native.Mathlib.Omega.{arith}
 use lib.Dec.{ltb, leb, eqb}
 use borrow.Author.Tests.{ltb-true, ltb-false, lt-ltb, leb-true, le-leb, eqb-true, eq-eqb, not-true}
 use Rattle.base.specs.Lists.{howMany}
-use Rattle.base.proofs.Truths.{and-left, and-right}
+use Rattle.base.proofs.Truths.{and-left, and-right, or-true}
 use Rattle.packet.specs.Packet.{pttOn}
 use Rattle.record.specs.Record.{seatNumbers, noSuchSeat, entryOf, seatOf}
 use Rattle.record.proofs.Seats.{seat-in-range, each-seat, at-seat, flag-is-seat, open-is-seat}
@@ -179,11 +179,7 @@ module _ (b : Bench) where
     on-from : (n : ℕ) → OnAir b n → among (onAir (b .setup) (keyings b)) n ≡ true
     unfolding onAir
     on-from n (inl l) = among-both (leaders (b .setup) (keyings b)) (added (b .setup) (keyings b)) n ∙ simp (leads-from n l)
-    on-from n (inr a) = among-both (leaders (b .setup) (keyings b)) (added (b .setup) (keyings b)) n ∙ simp (added-from n a) (either (among (leaders (b .setup) (keyings b)) n))
-      where
-        either : (t : Bool) → t || true ≡ true
-        either true = refl
-        either false = refl
+    on-from n (inr a) = among-both (leaders (b .setup) (keyings b)) (added (b .setup) (keyings b)) n ∙ simp (added-from n a) (or-true (among (leaders (b .setup) (keyings b)) n))
 
     -- ---- what is shown
 
@@ -259,11 +255,7 @@ module _ (b : Bench) where
         rw (le-leb 2 (howMany (among onList) seatNumbers) two)
     tells-from (sent n p e) =
         let one = sends-one (b .seats) onList seatNumbers n (all-numbers n (is-seat n (on-air-part n p))) (on-from n p) e in
-        rw one (either (leb 2 (howMany (among onList) seatNumbers)))
-      where
-        either : (t : Bool) → t || true ≡ true
-        either true = refl
-        either false = refl
+        rw one (or-true (leb 2 (howMany (among onList) seatNumbers)))
 
     pub shows : Shows b (benchAir b)
     unfolding benchAir airOf

@@ -29,6 +29,10 @@ pub or-none : (a : Bool) → a || false ≡ a
 or-none true = refl
 or-none false = refl
 
+pub or-true : (a : Bool) → a || true ≡ true
+or-true true = refl
+or-true false = refl
+
 pub or-left : (a b : Bool) → a || b ≡ false → a ≡ false
 or-left true b e = e
 or-left false b e = refl

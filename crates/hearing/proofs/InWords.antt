@@ -7,7 +7,7 @@ use lib.Dec.{ltb, leb, eqb}
 use borrow.Author.Tests.{ltb-true, lt-ltb, leb-true, le-leb, eqb-true, eqb-false, ne-eqb, not-true}
 use Rattle.base.specs.Order.{otherSsrc, late, missing}
 use Rattle.base.proofs.InWords.{so-many, no-other, late-exactly}
-use Rattle.base.proofs.Truths.{and-left, and-right, or-left, or-right, _and_}
+use Rattle.base.proofs.Truths.{and-left, and-right, or-left, or-right, _and_, or-true}
 use Rattle.packet.specs.Packet.{pttOn}
 use Rattle.packet.proofs.InWords.{MetIf, Agree}
 use Rattle.packet.specs.declared.message.SideItem.{SideItem}
@@ -25,10 +25,6 @@ use Rattle.hearing.specs.Account.{totalsAfter, totalTooLarge}
 use Rattle.hearing.specs.Hearing.{hasSide, isStandby, keyingBarred, idAllowed, sideBarred, messageRefusals}
 use Rattle.hearing.specs.InWords.{MessageBarred, other-ssrc, not-after, listens-only, not-coupling, lesson-tests, other-id, item-on-single, one-on-shared, item-from-lesson, too-many}
 use Rattle.hearing.proofs.Sides.{single-bars, shared-bars}
-
-either : (t : Bool) → t || true ≡ true
-either true = refl
-either false = refl
 
 -- ---- 19 to 23, and 33
 
@@ -92,7 +88,7 @@ module _ (setup : Setup) (n : ℕ) (s : Seat) (m : Tx) where
       only-if : (c : ℕ) → Barred 21 c → (keyingBarred (lesson setup n) (s .call) m ≡ true) × (c ≡ 0)
       only-if c (listens-only low high two three) = (simp (on-from low high, ne-eqb (s .call) 2 two, ne-eqb (s .call) 3 three), refl)
       only-if c (not-coupling e f) = (simp (e, f), refl)
-      only-if c (lesson-tests l low high) = (simp (l, on-from low (omega arith), ne-eqb (m .ptt) 5 (λ (z : m .ptt ≡ 5). omega arith), either), refl)
+      only-if c (lesson-tests l low high) = (simp (l, on-from low (omega arith), ne-eqb (m .ptt) 5 (λ (z : m .ptt ≡ 5). omega arith), or-true), refl)
 
   by-id : m .ptt ≤ 5 → MetIf Barred 22 (not (idAllowed (ownId n (s .call)) m))
   unfolding idAllowed
@@ -154,7 +150,7 @@ module _ (setup : Setup) (n : ℕ) (s : Seat) (m : Tx) where
       only-if : (c : ℕ) → Barred 23 c → (sideBarred (lesson setup n) (kindOf (setup .kind)) m ≡ true) × (c ≡ 0)
       only-if c (item-on-single one two out) = (simp (ne-eqb (setup .kind) 1 one, ne-eqb (setup .kind) 2 two, has (m .side) out), refl)
       only-if c (one-on-shared e q) = (simp (e, q), refl)
-      only-if c (item-from-lesson l out) = (simp (l, has (m .side) out, either), refl)
+      only-if c (item-from-lesson l out) = (simp (l, has (m .side) out, or-true), refl)
 
   by-total : isLate ≡ false → MetIf Barred 33 (totalTooLarge (totalsAfter s m))
   unfolding totalTooLarge totalsAfter

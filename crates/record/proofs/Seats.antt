@@ -21,9 +21,12 @@ seat-in-range n e =
     let last : n ≤ 8 = ltb-false 8 n (or-right (eqb n 0) (ltb 8 n) e) in
     (omega (arith, eqb-false n 0 first), last)
 
+pub in-range-seat : (n : ℕ) → 1 ≤ n → n ≤ 8 → noSuchSeat n ≡ false
+in-range-seat n low high = simp (ne-eqb n 0 (λ (none : n ≡ 0). omega arith), le-ltb 8 n high)
+
 -- and counted from 0
 pub real-at : (i : ℕ) → i < 8 → noSuchSeat (suc i) ≡ false
-real-at i h = simp (ne-eqb (suc i) 0 (λ (none : suc i ≡ 0). omega arith), le-ltb 8 (suc i) h)
+real-at i h = in-range-seat (suc i) (omega arith) h
 
 -- what holds of 1 to 8 holds of every seat
 pub each-seat : (P : ℕ → Type 0) → P 1 × P 2 × P 3 × P 4 × P 5 × P 6 × P 7 × P 8 → (n : ℕ) → noSuchSeat n ≡ false → P n

@@ -9,7 +9,7 @@ use lib.Dec.{ltb, leb, eqb}
 use lib.ListN.{length}
 use borrow.Author.Tests.{ltb-true, ltb-false, lt-ltb, leb-true, leb-false, le-leb, eqb-true, eqb-false, ne-eqb, not-true}
 use Rattle.base.specs.Bytes.{bit}
-use Rattle.base.proofs.Truths.{and-left, and-right, _and_}
+use Rattle.base.proofs.Truths.{and-left, and-right, _and_, or-true}
 use Rattle.packet.specs.Quality.{quality}
 use Rattle.packet.proofs.InWords.{MetIf, Agree, met-alike, is-quality}
 use Rattle.writer.specs.Writing.{audioWritable}
@@ -101,14 +101,10 @@ module _ (b : Bench) (n : ℕ) (sound : List ℕ) (room : ℕ) where
       if-holds false q e = let none = no-audio (length sound) q in no-length (none .0) (none .1) (none .2) (none .3)
       if-holds true q e = silent (leb 1 (b .signals)) (eqb (length sound) 0) refl refl e
 
-      either : (t : Bool) → t || true ≡ true
-      either true = refl
-      either false = refl
-
       only-if : (c : ℕ) → Barred 25 c → (audioBarred (b .signals) (length sound) ≡ true) × (c ≡ 0)
       only-if c (its-seat _ _ s) = absurd (let r = seat-range b n s in omega arith)
       only-if c (no-length a d e f) = (simp (not-audio (length sound) a d e f), refl)
-      only-if c (no-signal e a) = (simp (e, ne-eqb (length sound) 0 a, either), refl)
+      only-if c (no-signal e a) = (simp (e, ne-eqb (length sound) 0 a, or-true), refl)
 
   -- both items, or not
   two-sides : (b .setup .kind ≡ 1) ⊎ (b .setup .kind ≡ 2) → hasOneSide (kindOf (b .setup .kind)) ≡ false

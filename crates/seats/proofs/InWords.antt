@@ -8,7 +8,7 @@ use native.Mathlib.Omega.{arith}
 use lib.Dec.{ltb, leb, eqb}
 use lib.ListN.{length, getD}
 use borrow.Author.Tests.{ltb-true, lt-ltb, leb-false, lt-leb, eqb-true, eqb-false, ne-eqb, not-true}
-use Rattle.base.proofs.Truths.{and-left, and-right, and-none, _and_}
+use Rattle.base.proofs.Truths.{and-left, and-right, and-none, _and_, or-true}
 use Rattle.packet.proofs.InWords.{MetIf, Agree}
 use Rattle.record.specs.Kind.{kindOf, hasOneSide}
 use Rattle.record.specs.Record.{noSuchSeat, closedSeat, openedSeat, seatOf, lesson}
@@ -34,11 +34,7 @@ seat-to n e = by-case (eqb n 0) refl e
 
 seat-from : (n : ℕ) → NoSeat n → noSuchSeat n ≡ true
 seat-from n (inl e) = rw e
-seat-from n (inr h) = simp (lt-ltb 8 n h) (either (eqb n 0))
-  where
-    either : (t : Bool) → t || true ≡ true
-    either true = refl
-    either false = refl
+seat-from n (inr h) = simp (lt-ltb 8 n h) (or-true (eqb n 0))
 
 module _ (b : Bench) (n : ℕ) where
   pub seat-13 : MetIf (SeatBarred b n) 13 (noSuchSeat n)

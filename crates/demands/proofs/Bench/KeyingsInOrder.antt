@@ -9,7 +9,7 @@ use borrow.Author.Tests.{eq-eqb}
 use Rattle.base.specs.Lists.{howMany}
 use Rattle.packet.specs.Refusals.{NoCase, accepted}
 use Rattle.record.specs.Record.{seatNumbers, noSuchSeat, freshBench, seatOf}
-use Rattle.record.proofs.Seats.{each-seat, seat-in-range}
+use Rattle.record.proofs.Seats.{in-range-seat, each-seat, seat-in-range}
 use Rattle.seats.specs.Opening.{openedBench, closedBench}
 use Rattle.seats.specs.Ticking.{tickedBench}
 use Rattle.air.specs.Order.{orderAfter}
@@ -30,7 +30,6 @@ use Rattle.demands.proofs.Bench.Runs.{after-run}
 use Rattle.demands.proofs.Bench.Kept.{order-kept}
 use Rattle.demands.proofs.Bench.SeatAfter.{seat-after}
 use Rattle.demands.proofs.Bench.EventsSet.{stays}
-use Rattle.demands.proofs.Bench.OnTheAir.{real-seat}
 
 -- ---- a packet
 
@@ -91,7 +90,7 @@ unfolding freshBench
 counted-fresh setup n = refl
 
 pub counted-once : (b : Bench) → Counted b → OnceEach (b .order)
-counted-once b counted n low high = counted n ∙ one n (real-seat n low high)
+counted-once b counted n low high = counted n ∙ one n (in-range-seat n low high)
   where
     one : (n : ℕ) → noSuchSeat n ≡ false → howMany (λ m. eqb m n) seatNumbers ≡ 1
     one = each-seat (λ n. howMany (λ m. eqb m n) seatNumbers ≡ 1) (unfold howMany in (refl, refl, refl, refl, refl, refl, refl, refl))

@@ -6,10 +6,10 @@ use mathlib.Core.List.{List, [], _∷_}
 use mathlib.Core.Logic.{_↔_}
 use native.Mathlib.Omega.{arith}
 use lib.Dec.{ltb}
-use borrow.Author.Tests.{le-ltb, ne-eqb, not-true}
-use Rattle.base.proofs.Truths.{and-left, and-right}
+use borrow.Author.Tests.{not-true}
+use Rattle.base.proofs.Truths.{and-left, and-right, or-true}
 use Rattle.record.specs.Record.{seatNumbers, noSuchSeat, seatOf, lesson, freshBench}
-use Rattle.record.proofs.Seats.{each-seat, open-is-seat}
+use Rattle.record.proofs.Seats.{in-range-seat, each-seat, open-is-seat}
 use Rattle.air.specs.Air.{rank, takesPart}
 use Rattle.air.specs.InWords.{EachPlaced, Shows}
 use Rattle.air.proofs.Members.{among-placed}
@@ -26,14 +26,11 @@ use Rattle.demands.proofs.Demand3.LessonSeats.{Held, held-fresh, held-c
 
 -- ---- every run
 
-pub real-seat : (n : ℕ) → 1 ≤ n → n ≤ 8 → noSuchSeat n ≡ false
-real-seat n low high = simp (ne-eqb n 0 (λ (z : n ≡ 0). omega arith), le-ltb 8 n high)
-
 in-every-run : (setup : Setup) (cs : List Call) → let b = after keeping (freshBench setup) cs in EachPlaced b × Shows b (b .air)
 in-every-run setup cs =
     let b = after keeping (freshBench setup) cs in
     let held = after-run Held held-call (freshBench setup) cs (held-fresh setup) in
-    let placed : EachPlaced b = λ n low high. among-placed (b .order) n (held .placed n (real-seat n low high)) in
+    let placed : EachPlaced b = λ n low high. among-placed (b .order) n (held .placed n (in-range-seat n low high)) in
     (placed, subst (Shows b) (sym (air-kept .in-every-run setup cs)) (shows b placed))
 
 -- ---- "While"
@@ -78,15 +75,11 @@ module _ (b : Bench) where
       by-case true q e rest = above-to n q
       by-case false q e rest = rest e
 
-  either : (t : Bool) → t || true ≡ true
-  either true = refl
-  either false = refl
-
   told : (n : ℕ) → noSuchSeat n ≡ false → isAbove n ≡ true → liveAboveTest b seatNumbers ≡ true
   unfolding liveAboveTest
   told =
       each-seat (λ n. isAbove n ≡ true → liveAboveTest b seatNumbers ≡ true)
-      ((λ h. simp h), (λ h. simp (h, either)), (λ h. simp (h, either)), (λ h. simp (h, either)), (λ h. simp (h, either)), (λ h. simp (h, either)), (λ h. simp (h, either)), (λ h. simp (h, either)))
+      ((λ h. simp h), (λ h. simp (h, or-true)), (λ h. simp (h, or-true)), (λ h. simp (h, or-true)), (λ h. simp (h, or-true)), (λ h. simp (h, or-true)), (λ h. simp (h, or-true)), (λ h. simp (h, or-true)))
 
   while : (liveAboveTest b seatNumbers ≡ true) ↔ LiveAbove b
   while = (found seatNumbers, λ a. told (a .seat) (open-is-seat (b .seats) (a .seat) (a .part .is-open)) (above-from a))

@@ -8,7 +8,7 @@ use lib.Dec.{eqb}
 use lib.ListN.{length, length-append}
 use borrow.Author.Tests.{eqb-true, eqb-false, ne-eqb, not-true}
 use Rattle.base.specs.Bytes.{Bytes}
-use Rattle.base.proofs.Truths.{and-left, and-right, or-left, or-right}
+use Rattle.base.proofs.Truths.{and-left, and-right, or-left, or-right, or-true}
 use Rattle.packet.specs.Packet.{payloadType, extensionType, wordCount, payload, fieldAllowed, payloadAllowed}
 use Rattle.packet.specs.Items.{Item, ddcType, itemAllowed, allAllowed, hasType, noTypeTwice, sqiAmong, climaxAmong, sideAmong, kept}
 use Rattle.packet.specs.Refusals.{Case, Answer, accepted, judged}
@@ -41,10 +41,6 @@ use Rattle.demands.proofs.Demand2.RoundTrip.{never-written}
 use Rattle.demands.proofs.Demand2.Accepted.{items-stand, numbers-fit, message-writable}
 
 -- ---- the items without those of type 4
-
-or-true : (a : Bool) → a || true ≡ true
-or-true true = refl
-or-true false = refl
 
 ddc-allowed : (d : Direction) (i : Item) → eqb (i .type) 4 ≡ true → itemAllowed d i ≡ true
 unfolding itemAllowed

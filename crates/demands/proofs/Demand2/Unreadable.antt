@@ -9,7 +9,7 @@ use lib.Dec.{ltb, leb, eqb}
 use lib.ListN.{length, take, drop, replicate}
 use borrow.Author.Tests.{ltb-true, lt-ltb, leb-false, eqb-true, eqb-false, eq-eqb, ne-eqb, not-true, not-false}
 use Rattle.base.specs.Bytes.{isSet, bit, Bytes}
-use Rattle.base.proofs.Truths.{or-left, or-right, _and_}
+use Rattle.base.proofs.Truths.{or-left, or-right, _and_, or-true}
 use Rattle.packet.specs.Packet.{version, padding, marker, extension, payloadType, extensionAt, extensionType, wordsAt, wordCount, payloadAt, payload, payloadAllowed, field, pttType, squ, squAllowed, reserved, x, fieldAllowed, afterField}
 use Rattle.packet.specs.Items.{Item, someItem, itemsAllowed, itemsOf}
 use Rattle.packet.specs.Refusals.{causeOf}
@@ -41,10 +41,6 @@ fails t said e s = false≢true (sym (not-true t e) ∙ said s)
 one-of : (a b : Bool) → (a || b) ≡ true → (a ≡ true) ⊎ (b ≡ true)
 one-of true b e = inl refl
 one-of false b e = inr e
-
-or-true : (a : Bool) → (a || true) ≡ true
-or-true true = refl
-or-true false = refl
 
 -- ---- the items
 
