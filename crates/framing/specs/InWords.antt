@@ -1,5 +1,5 @@
--- Second witness of `framing`: the frame of RFC 4571 in plain numbers, "an unsigned integer in network byte order". proofs/InWords holds
--- the definitions of Framing to it; none of them is cited.
+-- Second witness of `framing`: the frame of RFC 4571 in plain numbers. 003 (our translation): "an unsigned integer in network byte order".
+-- proofs/InWords holds the definitions of Framing to it; none of them is cited.
 use Prim.Native.Nat.{ℕ, _+_, _/_, _%_}
 use mathlib.Core.Path.{_≡_}
 use mathlib.Core.List.{List}
