@@ -1,4 +1,4 @@
--- Second witness of `reader` (readTx), `writer` (fromTx, encode, write), `seats`, `hearing`, `reporting`, `sending`: 01, What is turned
+-- Second witness of `reader` (readTx, readRx), `writer` (fromTx, fromRx, encode, write), `seats`, `hearing`, `reporting`, `sending`: 01, What is turned
 -- away: a row for each number, with its cause, next to a packet that is read and written with every byte of its head different, so that
 -- byte order and bit places are fixed by this table. (33 is in TotalsBound; 19 to 23 and 33 for every packet: PacketTells; 13 to 18 and 24
 -- to 26 for every call: Limits.)
@@ -8,12 +8,14 @@ use mathlib.Core.Bool.{true, false}
 use mathlib.Core.List.{List, [], _∷_, _++_}
 use lib.ListN.{replicate, take}
 use Rattle.packet.specs.Refusals.{Answer, accepted, refused}
-use Rattle.reader.specs.Reading.{readTx}
-use Rattle.writer.specs.Writing.{fromTx, encode, write}
+use Rattle.reader.specs.Reading.{readTx, readRx}
+use Rattle.writer.specs.Writing.{fromTx, fromRx, encode, write}
+use Rattle.packet.specs.declared.message.SqiItem.the-variants as sqi
 use Rattle.packet.specs.declared.message.ClimaxItem.the-variants as climax
 use Rattle.packet.specs.declared.message.SideItem.{SideItem}
 use Rattle.packet.specs.declared.message.SideItem.the-variants as item
 use Rattle.packet.specs.declared.message.Tx.{Tx}
+use Rattle.packet.specs.declared.message.Rx.{Rx}
 use Rattle.record.specs.Record.{freshBench}
 use Rattle.bench.specs.Step.{Call, opening, closing, packet, tick, report, side, totals, Said, keeping, after}
 use Rattle.record.specs.declared.setup.Setup.{Setup}
@@ -34,6 +36,33 @@ fine = worded 0x20 0xA0
 abbrev pub fineSays : Tx
 fineSays =
     record { sequence = 258; timestamp = 50595078; ssrc = 117967114; ptt = 1; id = 2; pm = true; ptts = false; climax = climax.Absent; side = item.Absent }
+
+-- Every field set, no two bits alike: Priority, id 45, muted, a delay of 37, standby; and of RX with SQU and SCT, quality 13 by C/N, main.
+abbrev pub fullTx : List ℕ
+fullTx = headed 0x90 0x7B ++ 0x01 ∷ 0x67 ∷ 0x00 ∷ 0x02 ∷ 0x6B ∷ 0x61 ∷ 0x21 ∷ 0xA5 ∷ 0x51 ∷ 0x80 ∷ 0x00 ∷ 0x00 ∷ []
+
+abbrev pub fullTxSays : Tx
+fullTxSays =
+    record { sequence = 258; timestamp = 50595078; ssrc = 117967114; ptt = 3; id = 45; pm = true; ptts = false; climax = climax.Is 37; side = item.Standby }
+
+abbrev pub fullRx : List ℕ
+fullRx = headed 0x90 0x7B ++ 0x01 ∷ 0x67 ∷ 0x00 ∷ 0x02 ∷ 0x7B ∷ 0x69 ∷ 0x11 ∷ 0x6A ∷ 0x51 ∷ 0x00 ∷ 0x00 ∷ 0x00 ∷ []
+
+abbrev pub fullRxSays : Rx
+fullRxSays =
+    record {
+      sequence = 258;
+      timestamp = 50595078;
+      ssrc = 117967114;
+      ptt = 3;
+      squ = true;
+      id = 45;
+      pm = true;
+      ptts = false;
+      sct = true;
+      sqi = sqi.Is 13 2;
+      side = item.Main;
+    }
 
 -- seat 8 is a lesson seat; a single radio (kind 0), lockout, interruption
 abbrev pub school : Setup
@@ -131,6 +160,10 @@ rows =
 pub record EachRefusal : Type 0 where
   pub reads : readTx 0x0167 fine ≡ accepted fineSays
   pub writes : encode 0x0167 (fromTx fineSays) [] ≡ fine
+  pub reads-tx : readTx 0x0167 fullTx ≡ accepted fullTxSays
+  pub writes-tx : encode 0x0167 (fromTx fullTxSays) [] ≡ fullTx
+  pub reads-rx : readRx 0x0167 fullRx ≡ accepted fullRxSays
+  pub writes-rx : encode 0x0167 (fromRx fullRxSays) [] ≡ fullRx
   pub turned-away : AllRows rows
   -- 27: a ptt-id of seven bits
   pub unwritable : write 0x0167 (fromTx (record { sequence = 258; timestamp = 0; ssrc = 5; ptt = 1; id = 64; pm = true; ptts = false; climax = climax.Absent; side = item.Absent })) [] 512

@@ -1,4 +1,4 @@
--- Second witness of `seats` (silenceCause), `reporting`, `sending`, `writer` (write): 01, What is turned away, of every other call, with
+-- Second witness of `seats` (silenceCause), `reporting`, `sending`, `writer` (write, put): 01, What is turned away, of every other call, with
 -- its number and cause, in the words and numbers of InWords of `seats`, `reporting`, `sending` and `writer`: 13 to 18 and 24 to 27. (1 to
 -- 12: Unreadable. A packet: PacketTells. The side event: SideMoves.)
 use Prim.Native.Nat.{ℕ}
@@ -10,7 +10,7 @@ use lib.IntN.{ℤ}
 use lib.ListN.{length}
 use Rattle.packet.specs.Refusals.{accepted}
 use Rattle.packet.specs.InWords.{TurnedAway}
-use Rattle.writer.specs.Writing.{write}
+use Rattle.writer.specs.Writing.{write, put}
 use Rattle.writer.specs.InWords.{WriterBarred}
 use Rattle.packet.specs.declared.message.Message.{Message}
 use Rattle.seats.specs.InWords.{SeatBarred, OpenBarred}
@@ -21,7 +21,7 @@ use Rattle.bench.specs.Step.{opening, closing, tick, report, received, transmit
 use Rattle.record.specs.declared.whole.Bench.{Bench}
 use Rattle.seats.specs.declared.opening.CallType.the-variants.{Idle, RxOnly, TxRx, Coupling}
 use Rattle.seats.specs.declared.opening.Request.{Request}
-use Rattle.demands.specs.ExactAll.{openOrder, closeOrder, reportOrder, tickOrder, totalsOrder, writersOrder}
+use Rattle.demands.specs.ExactAll.{openOrder, closeOrder, reportOrder, tickOrder, totalsOrder, writersOrder, putOrder}
 
 pub record Limits : Type 0 where
   pub of-open : (b : Bench) (n : ℕ) (r : Request) → length (b .seats) ≡ 8 → TurnedAway (OpenBarred b n r) openOrder (keeping b (opening n r) .answer)
@@ -39,3 +39,5 @@ pub record Limits : Type 0 where
   pub of-received : (b : Bench) (signals : ℕ) (level : ℤ) → keeping b (received signals level) .answer ≡ accepted done
   pub of-transmitter : (b : Bench) (healthy : Bool) → keeping b (transmitter healthy) .answer ≡ accepted done
   pub of-writers : (ext : ℕ) (m : Message) (sound : List ℕ) (room : ℕ) → TurnedAway (WriterBarred m sound room) writersOrder (write ext m sound room)
+  -- and the writer of reports, below 27: 26 alone
+  pub of-put : (ext : ℕ) (m : Message) (sound : List ℕ) (room : ℕ) → TurnedAway (WriterBarred m sound room) putOrder (put ext m sound room)

@@ -19,7 +19,7 @@ use Rattle.packet.specs.declared.message.SideItem.{SideItem}
 use Rattle.packet.specs.declared.message.SideItem.the-variants as side
 use Rattle.packet.specs.declared.message.Items.{Items}
 use Rattle.packet.specs.declared.message.Message.{Message}
-use Rattle.writer.specs.Writing.{risingItems, itemBytes, fewestWords, encode, sqiWritable, climaxWritable, audioWritable, writable, writerRefusals}
+use Rattle.writer.specs.Writing.{risingItems, itemBytes, fewestWords, encode, sqiWritable, climaxWritable, audioWritable, writable, writerRefusals, putRefusals}
 use Rattle.writer.specs.InWords.{TwoItems, sqi-climax, sqi-side, climax-side, WriterBarred, no-type, no-id, no-method, no-quality, no-rssi, no-delay, no-length, under-20, under-24}
 use Rattle.writer.proofs.Written.{encoded-length}
 
@@ -168,3 +168,8 @@ module _ (ext : ℕ) (m : Message) (sound : List ℕ) (room : ℕ) where
   pub writer-agrees : Agree (WriterBarred m sound room) (writerRefusals ext m sound room)
   unfolding writerRefusals
   writer-agrees = (by-value m sound room, λ fine. (by-room, λ fits. tt))
+
+  -- below 27, of the same table
+  pub put-agrees : Agree (WriterBarred m sound room) (putRefusals ext m sound room)
+  unfolding putRefusals
+  put-agrees = (by-room, λ fits. tt)

@@ -6,8 +6,8 @@ use lib.ListN.{length}
 use Rattle.packet.specs.Refusals.{accepted}
 use Rattle.packet.specs.InWords.{TurnedAway}
 use Rattle.packet.proofs.InWords.{Agree, numbers, turned-away}
-use Rattle.writer.specs.Writing.{encode, writerRefusals, write}
-use Rattle.writer.proofs.InWords.{writer-agrees}
+use Rattle.writer.specs.Writing.{encode, writerRefusals, write, putRefusals, put}
+use Rattle.writer.proofs.InWords.{writer-agrees, put-agrees}
 use Rattle.seats.specs.Opening.{callCode, ownId, openRefusals, seatRefusals}
 use Rattle.seats.proofs.InWords.{seat-agrees, open-agrees}
 use Rattle.reporting.specs.Reporting.{reportRefusals}
@@ -30,7 +30,7 @@ own-told : (b : Bench) (n : ℕ) (r : Request) (id : ℕ) → keeping b (opening
 own-told b n r id e = let is : ownId n (callCode (r .call)) ≡ id = cc (was-accepted b (opening n r) (own id) e .1) in sym is
 
 pub limits : Limits
-unfolding openRefusals seatRefusals reportRefusals tickRefusals writerRefusals write does
+unfolding openRefusals seatRefusals reportRefusals tickRefusals writerRefusals write putRefusals put does
 limits =
     record {
       of-open = λ b n r eight. of-call _ b (opening n r) (open-agrees b n r eight);
@@ -44,6 +44,7 @@ limits =
       of-received = λ b signals level. refl;
       of-transmitter = λ b healthy. refl;
       of-writers = λ ext m sound room. turned-away _ (length (encode ext m sound)) (writerRefusals ext m sound room) (writer-agrees ext m sound room);
+      of-put = λ ext m sound room. turned-away _ (length (encode ext m sound)) (putRefusals ext m sound room) (put-agrees ext m sound room);
     }
   where
     keys : (n : ℕ) (r : Request) → (r .call ≡ TxRx) ⊎ (r .call ≡ Coupling) → ownId n (callCode (r .call)) ≡ n
