@@ -56,31 +56,31 @@ module _ (seats : List Seat) (on : List Bool) (k : ℕ) (counted : k ≡ how_man
   unfolding ptts_shown
   ptts_sent r h e = rw (← counted, lt-leb _ _ h) e
 
-module _ (equalSummation : Bool) (top : ℕ) (order ranks : List ℕ) where
-  pub leads_nobody : top ≡ 0 → replicate 8 false ≡ marks_of (leaders_at equalSummation top order ranks)
+module _ (equal_summation : Bool) (top : ℕ) (order ranks : List ℕ) where
+  pub leads_nobody : top ≡ 0 → replicate 8 false ≡ marks_of (leaders_at equal_summation top order ranks)
   unfolding leaders_at among
   leads_nobody e = simp e
 
-  pub leads_all : (r : List Bool) → (top ≡ 0 → ⊥) → equalSummation ≡ true → r ≡ mark_all (replicate 8 false) (seats_at top order ranks)
-      → r ≡ marks_of (leaders_at equalSummation top order ranks)
+  pub leads_all : (r : List Bool) → (top ≡ 0 → ⊥) → equal_summation ≡ true → r ≡ mark_all (replicate 8 false) (seats_at top order ranks)
+      → r ≡ marks_of (leaders_at equal_summation top order ranks)
   unfolding leaders_at among
   leads_all r z s e = simp (ne_eqb _ _ z, s) (e ∙ mark_list [] (seats_at top order ranks))
 
-  pub leads_first : (first : ℕ) (r : List Bool) → (top ≡ 0 → ⊥) → equalSummation ≡ false → first ≡ first_at top order ranks → r ≡ mark_if true (replicate 8 false) first
-      → r ≡ marks_of (leaders_at equalSummation top order ranks)
+  pub leads_first : (first : ℕ) (r : List Bool) → (top ≡ 0 → ⊥) → equal_summation ≡ false → first ≡ first_at top order ranks → r ≡ mark_if true (replicate 8 false) first
+      → r ≡ marks_of (leaders_at equal_summation top order ranks)
   unfolding leaders_at among
   leads_first first r z s f e = simp (ne_eqb _ _ z, s) (e ∙ ap (mark_if true (replicate 8 false)) f ∙ mark_first top order ranks)
 
-module _ (leads : List Bool) (couplingSummation : Bool) (top : ℕ) (order ranks : List ℕ) where
-  pub added_coupled : (r : List Bool) → couplingSummation ≡ true → 2 < top → r ≡ mark_all leads (seats_at 2 order ranks) → r ≡ mark_all leads (added_at couplingSummation top order ranks)
+module _ (leads : List Bool) (coupling_summation : Bool) (top : ℕ) (order ranks : List ℕ) where
+  pub added_coupled : (r : List Bool) → coupling_summation ≡ true → 2 < top → r ≡ mark_all leads (seats_at 2 order ranks) → r ≡ mark_all leads (added_at coupling_summation top order ranks)
   unfolding added_at
   added_coupled r c h e = simp (c, lt-ltb _ _ h) e
 
-  pub added_under : couplingSummation ≡ true → top ≤ 2 → leads ≡ mark_all leads (added_at couplingSummation top order ranks)
+  pub added_under : coupling_summation ≡ true → top ≤ 2 → leads ≡ mark_all leads (added_at coupling_summation top order ranks)
   unfolding added_at mark_all
   added_under c h = simp (c, le-ltb _ _ h)
 
-  pub added_none : couplingSummation ≡ false → leads ≡ mark_all leads (added_at couplingSummation top order ranks)
+  pub added_none : coupling_summation ≡ false → leads ≡ mark_all leads (added_at coupling_summation top order ranks)
   unfolding added_at mark_all
   added_none c = simp c
 

@@ -48,12 +48,12 @@ mark_if test marks n = mark_from 1 test marks n
 unfoldable pub mark_all : List Bool → List ℕ → List Bool
 mark_all marks ns = foldl (mark_if true) marks ns
 
-unfoldable pub leaders_at : (equalSummation : Bool) → (top : ℕ) → (order ranks : List ℕ) → List ℕ
-leaders_at equalSummation top order ranks =
-    cond (eqb top 0) [] (cond equalSummation (seats_at top order ranks) (the_first (seats_at top order ranks)))
+unfoldable pub leaders_at : (equal_summation : Bool) → (top : ℕ) → (order ranks : List ℕ) → List ℕ
+leaders_at equal_summation top order ranks =
+    cond (eqb top 0) [] (cond equal_summation (seats_at top order ranks) (the_first (seats_at top order ranks)))
 
-unfoldable pub added_at : (couplingSummation : Bool) → (top : ℕ) → (order ranks : List ℕ) → List ℕ
-added_at couplingSummation top order ranks = cond (couplingSummation && ltb coupling_rank top) (seats_at coupling_rank order ranks) []
+unfoldable pub added_at : (coupling_summation : Bool) → (top : ℕ) → (order ranks : List ℕ) → List ℕ
+added_at coupling_summation top order ranks = cond (coupling_summation && ltb coupling_rank top) (seats_at coupling_rank order ranks) []
 
 -- The smallest number that is marked, the first mark being n's.
 unfoldable pub smallest_from : (n : ℕ) → List Bool → ℕ

@@ -76,15 +76,15 @@ records_seen setup while records = map (λ n. cond (lesson setup n) [] (as_seen 
 
 -- What of an answer has to be the same: of reports what is said above, of "All other answers" everything, but at other times not whether
 -- a packet that keys Test is sent, nor its audio.
-unfoldable pub fixed : Setup → (while isTest : Bool) → Said → Said
-fixed setup while isTest done = done
-fixed setup while isTest (own id) = own id
-fixed setup while isTest (heard h sound) =
-    let open-to-lessons = isTest && not while in
+unfoldable pub fixed : Setup → (while is_test : Bool) → Said → Said
+fixed setup while is_test done = done
+fixed setup while is_test (own id) = own id
+fixed setup while is_test (heard h sound) =
+    let open-to-lessons = is_test && not while in
     heard (record { missing = h.missing; reply = h.reply; standby = h.standby; sent = not open-to-lessons && h.sent }) (cond open-to-lessons [] sound)
-fixed setup while isTest (ticked closed due records) = ticked (among_live setup closed) (among_live setup due) (records_seen setup while records)
-fixed setup while isTest (written bytes) = written (as_seen while bytes)
-fixed setup while isTest (totalled packets missing) = totalled packets missing
+fixed setup while is_test (ticked closed due records) = ticked (among_live setup closed) (among_live setup due) (records_seen setup while records)
+fixed setup while is_test (written bytes) = written (as_seen while bytes)
+fixed setup while is_test (totalled packets missing) = totalled packets missing
 
 unfoldable pub compared : Setup → Call → Outcome → Answer Said
 compared setup c o = mapped (fixed setup (live_above_test o.bench seat_numbers) (keys_test c)) o.answer

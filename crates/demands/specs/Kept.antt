@@ -16,20 +16,20 @@ use Rattle.record.specs.declared.seat.Seat.{Seat}
 use Rattle.record.specs.declared.whole.Bench.{Bench}
 
 -- The last field of a seat of that call type, with that ptt-id of its own.
-pub record FieldKept (isLesson : Bool) (kind : Kind) (call own : ℕ) (f : Field) : Type 0 where
+pub record FieldKept (is_lesson : Bool) (kind : Kind) (call own : ℕ) (f : Field) : Type 0 where
   -- "6 and 7 are reserved and refused"
   pub type_known : f.ptt ≤ test
   -- not "PTT on for Idle or Rxonly; Coupling PTT for TxRx; lesson seat with PTT on other than Test"
   pub may_key : ptt_on f.ptt ≡ true → may_key call ≡ true
   pub coupling_keys : f.ptt ≡ coupling → is_coupling call ≡ true
-  pub lesson_only_tests : isLesson ≡ true → eqb f.ptt off || eqb f.ptt test ≡ true
+  pub lesson_only_tests : is_lesson ≡ true → eqb f.ptt off || eqb f.ptt test ≡ true
   -- not "ptt-id not the seat's own; with PTT off 0 also passes"
   pub own_or_none : (f.id ≡ own) ⊎ (f.id ≡ 0)
   pub keyed_own : ptt_on f.ptt ≡ true → f.id ≡ own
   -- not "main/standby item .. on a single radio", nor "an item of 1" on a shared one, nor "main/standby item from a lesson seat"
   pub no_item_single : kind ≡ Single → f.sided ≡ false
   pub zero_or_none_shared : kind ≡ Shared → f.standby ≡ false
-  pub no_item_lesson : isLesson ≡ true → f.sided ≡ false
+  pub no_item_lesson : is_lesson ≡ true → f.sided ≡ false
   -- the value of an item that is not there
   pub no_delay : f.delayed ≡ false → f.delay ≡ 0
   pub no_side : f.sided ≡ false → f.standby ≡ false

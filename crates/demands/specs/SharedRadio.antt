@@ -25,21 +25,21 @@ abbrev pub IsShared : Bench → Type 0
 IsShared b = kind_of b.setup.kind ≡ Shared
 
 -- The side in use after one more call, if the radio's own events alone move it,
-abbrev pub side_by : (inUse : Bool) → Call → Bool
-side_by inUse (opening n r) = inUse
-side_by inUse (closing n) = inUse
-side_by inUse (packet n p) = inUse
-side_by inUse (tick ms timestamp room) = inUse
-side_by inUse (report n timestamp sound room) = inUse
-side_by inUse (received signals level) = inUse
-side_by inUse (transmitter healthy) = inUse
-side_by inUse (side standby) = standby
-side_by inUse (totals n) = inUse
+abbrev pub side_by : (in_use : Bool) → Call → Bool
+side_by in_use (opening n r) = in_use
+side_by in_use (closing n) = in_use
+side_by in_use (packet n p) = in_use
+side_by in_use (tick ms timestamp room) = in_use
+side_by in_use (report n timestamp sound room) = in_use
+side_by in_use (received signals level) = in_use
+side_by in_use (transmitter healthy) = in_use
+side_by in_use (side standby) = standby
+side_by in_use (totals n) = in_use
 
 -- and after a run: that of the last event.
-unfoldable pub last_side : (inUse : Bool) → List Call → Bool
-last_side inUse [] = inUse
-last_side inUse (c ∷ cs) = last_side (side_by inUse c) cs
+unfoldable pub last_side : (in_use : Bool) → List Call → Bool
+last_side in_use [] = in_use
+last_side in_use (c ∷ cs) = last_side (side_by in_use c) cs
 
 pub record SharedRadio : Type 0 where
   -- each kind of radio is set up by its code

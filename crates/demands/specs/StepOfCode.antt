@@ -9,12 +9,12 @@ use Rattle.writer.specs.Writing.{from_tx, from_rx, write, buffered, put, after_p
 use Rattle.record.specs.Kind.{kind_code}
 use Rattle.record.specs.Record.{fresh_bench}
 use Rattle.air.specs.Air.{aired}
-use Rattle.seats.specs.Answers.{openAnswer, doneAnswer}
+use Rattle.seats.specs.Answers.{open_answer, done_answer}
 use Rattle.seats.specs.Ticking.{silence_cause}
 use Rattle.hearing.specs.Hearing.{audio_in}
 use Rattle.reporting.specs.Reporting.{report_said, report_buffer}
 use Rattle.sending.specs.Sending.{no_seats, tick_said, tick_sets, tick_buffer}
-use Rattle.hearing.specs.Answers.{packetAnswer, totalsAnswer}
+use Rattle.hearing.specs.Answers.{packet_answer, totals_answer}
 use Rattle.bench.specs.Step.{opening, closing, packet, tick, report, received, transmitter, side, totals, Said, done, own, told, ticked, written, counts, Outcome, keeping}
 use Rattle.record.specs.declared.whole.Bench.{Bench}
 use Rattle.sending.specs.declared.sending.SeatSets.{SeatSets}
@@ -66,13 +66,13 @@ pub record StepOfCode : Type 1 where
   -- the calls of the bench
   pub starts : Gives the_record.whole.Bench.fresh.Reads.Learnt (λ k (setup, end) r e. r ≡ fresh_bench setup)
   pub opens : Gives seats.«open».Reads.Learnt
-      (λ k (b, (n, (request, end))) r e. did (mapped own (openAnswer r.answer)) r.bench ≡ keeping b (opening n request))
+      (λ k (b, (n, (request, end))) r e. did (mapped own (open_answer r.answer)) r.bench ≡ keeping b (opening n request))
   pub closes : Gives seats.close.Reads.Learnt
-      (λ k (b, (n, end)) r e. did (mapped was_done (doneAnswer r.answer)) r.bench ≡ keeping b (closing n))
+      (λ k (b, (n, end)) r e. did (mapped was_done (done_answer r.answer)) r.bench ≡ keeping b (closing n))
   -- with the audio that `audio` hands out for its answer
   pub hears : Gives hearing.packet.Reads.Learnt (λ k (b, (n, (p, end))) r e.
-      did (mapped (told p.now) (packetAnswer r.answer)) r.bench ≡ keeping b (packet n p.now))
-  pub hands_out : Gives hearing.audio.Reads.Learnt (λ k (answer, (p, end)) sound e. sound.now ≡ audio_in (packetAnswer answer) p.now)
+      did (mapped (told p.now) (packet_answer r.answer)) r.bench ≡ keeping b (packet n p.now))
+  pub hands_out : Gives hearing.audio.Reads.Learnt (λ k (answer, (p, end)) sound e. sound.now ≡ audio_in (packet_answer answer) p.now)
   pub ticks : Gives sending.tick.Reads.Learnt (λ k (b, (ms, (timestamp, (out, end)))) r e.
       did (mapped (sent_in r.seats e.1.1.1.0.now) (written_answer r.answer)) r.bench ≡ keeping b (tick ms timestamp (length out.now)))
   -- the bytes used; "bytes past those stay", and all of them where it is refused
@@ -93,9 +93,9 @@ pub record StepOfCode : Type 1 where
       (λ k (b, (signals, (level, end))) r e. did (accepted done) r ≡ keeping b (received signals level))
   pub transmits : Gives seats.transmitter.Reads.Learnt (λ k (b, (healthy, end)) r e. did (accepted done) r ≡ keeping b (transmitter healthy))
   pub sides : Gives seats.side.Reads.Learnt
-      (λ k (b, (standby, end)) r e. did (mapped was_done (doneAnswer r.answer)) r.bench ≡ keeping b (side standby))
+      (λ k (b, (standby, end)) r e. did (mapped was_done (done_answer r.answer)) r.bench ≡ keeping b (side standby))
   -- the bench is not given back: it is as it was
-  pub tells_totals : Gives hearing.totals.Reads.Learnt (λ k (b, (n, end)) r e. did (mapped counts (totalsAnswer r)) b ≡ keeping b (totals n))
+  pub tells_totals : Gives hearing.totals.Reads.Learnt (λ k (b, (n, end)) r e. did (mapped counts (totals_answer r)) b ≡ keeping b (totals n))
   -- what else the bench gives out
   pub airs : Gives air.aired.Reads.Learnt (λ k (b, end) r e. r ≡ aired b)
   pub tells_cause : Gives seats.silence_cause.Reads.Learnt (λ k end r e. r ≡ silence_cause)

@@ -16,9 +16,9 @@ setup_in s = do
   lessons ← seats_in (word_of s 1)
   ext ← hex_in (word_of s 2)
   kind ← kind_in (word_of s 3)
-  equalSummation ← one_of (word_of s 4) (text "lockout summation") (false ∷ true ∷ [])
-  couplingSummation ← one_of (last_of s 5) (text "interruption summation") (false ∷ true ∷ [])
-  Is (call.Setup (record { lessons = lessons; ext = ext; kind = kind; equal_summation = equalSummation; coupling_summation = couplingSummation }))
+  equal_summation ← one_of (word_of s 4) (text "lockout summation") (false ∷ true ∷ [])
+  coupling_summation ← one_of (last_of s 5) (text "interruption summation") (false ∷ true ∷ [])
+  Is (call.Setup (record { lessons = lessons; ext = ext; kind = kind; equal_summation = equal_summation; coupling_summation = coupling_summation }))
 
 -- "open SEAT idle|rxonly|txrx|coupling PERIOD MULTIPLIER SSRC SEQUENCE"
 unfoldable pub open_in : List ℕ → Said Call

@@ -109,9 +109,9 @@ module _ (m : Tx) (f : Field) where
 
 -- ---- the side
 
-module _ (kind : ℕ) (old : Field) (m : Tx) (inUse : Bool) where
+module _ (kind : ℕ) (old : Field) (m : Tx) (in_use : Bool) where
   abbrev side_now : Bool
-  side_now = side_after (kind_of kind) old (field_heard m) inUse
+  side_now = side_after (kind_of kind) old (field_heard m) in_use
 
   to_main : kind ≡ 1 → m.side ≡ item.Main → (old.sided ≡ false) ⊎ (old.standby ≡ true) → side_now ≡ false
   unfolding side_after takes_effect field_heard kind_of
@@ -123,17 +123,17 @@ module _ (kind : ℕ) (old : Field) (m : Tx) (inUse : Bool) where
   to_standby k q (inl other) = simp (k, q, other)
   to_standby k q (inr other) = simp (k, q, other, and_none)
 
-  main_again : m.side ≡ item.Main → old.sided ≡ true → old.standby ≡ false → side_now ≡ inUse
+  main_again : m.side ≡ item.Main → old.sided ≡ true → old.standby ≡ false → side_now ≡ in_use
   unfolding side_after takes_effect field_heard kind_of
   main_again q had was = simp (q, had, was, and_none)
 
-  standby_again : m.side ≡ item.Standby → old.sided ≡ true → old.standby ≡ true → side_now ≡ inUse
+  standby_again : m.side ≡ item.Standby → old.sided ≡ true → old.standby ≡ true → side_now ≡ in_use
   unfolding side_after takes_effect field_heard kind_of
   standby_again q had was = simp (q, had, was, and_none)
 
-  elsewhere : (kind ≡ 1 → ⊥) → side_now ≡ inUse
+  elsewhere : (kind ≡ 1 → ⊥) → side_now ≡ in_use
   unfolding kind_of
-  elsewhere other = side_unmoved (kind_of kind) old (field_heard m) inUse (by_kind (eqb kind 1) (eqb kind 2) (ne_eqb kind 1 other))
+  elsewhere other = side_unmoved (kind_of kind) old (field_heard m) in_use (by_kind (eqb kind 1) (eqb kind 2) (ne_eqb kind 1 other))
     where
       by_kind : (one two : Bool) → one ≡ false → items_move_side (cond one Pair (cond two Shared Single)) ≡ false
       by_kind true two e = absurd (false≢true (sym e))

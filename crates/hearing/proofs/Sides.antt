@@ -23,10 +23,10 @@ shared_bars side.Main = refl
 shared_bars side.Standby = refl
 
 -- 23 not met
-module _ (isLesson : Bool) (kind : Kind) (m : Tx) (passed : side_barred isLesson kind m ≡ false) where
+module _ (is_lesson : Bool) (kind : Kind) (m : Tx) (passed : side_barred is_lesson kind m ≡ false) where
   by_kind : item_barred kind m.side ≡ false
   unfolding side_barred
-  by_kind = or_left (item_barred kind m.side) (isLesson && has_side m.side) passed
+  by_kind = or_left (item_barred kind m.side) (is_lesson && has_side m.side) passed
 
   pub no_item_single : kind ≡ Single → has_side m.side ≡ false
   no_item_single e = sym (ap (λ (k : Kind). item_barred k m.side) e ∙ single_bars m.side) ∙ by_kind
@@ -34,17 +34,17 @@ module _ (isLesson : Bool) (kind : Kind) (m : Tx) (passed : side_barred isLesson
   pub zero_or_none_shared : kind ≡ Shared → is_standby m.side ≡ false
   zero_or_none_shared e = sym (ap (λ (k : Kind). item_barred k m.side) e ∙ shared_bars m.side) ∙ by_kind
 
-  pub no_item_lesson : isLesson ≡ true → has_side m.side ≡ false
+  pub no_item_lesson : is_lesson ≡ true → has_side m.side ≡ false
   unfolding side_barred
-  no_item_lesson = and_rest isLesson (has_side m.side) (or_right (item_barred kind m.side) (isLesson && has_side m.side) passed)
+  no_item_lesson = and_rest is_lesson (has_side m.side) (or_right (item_barred kind m.side) (is_lesson && has_side m.side) passed)
 
-module _ (kind : Kind) (old new : Field) (inUse : Bool) where
+module _ (kind : Kind) (old new : Field) (in_use : Bool) where
   -- a packet without the item leaves the side, on every kind of radio,
-  pub side_stays : new.sided ≡ false → side_after kind old new inUse ≡ inUse
+  pub side_stays : new.sided ≡ false → side_after kind old new in_use ≡ in_use
   unfolding side_after takes_effect
   side_stays e = simp (e, and_none (items_move_side kind))
 
   -- and so does every packet where items move nothing
-  pub side_unmoved : items_move_side kind ≡ false → side_after kind old new inUse ≡ inUse
+  pub side_unmoved : items_move_side kind ≡ false → side_after kind old new in_use ≡ in_use
   unfolding side_after
   side_unmoved e = simp e

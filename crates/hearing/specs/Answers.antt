@@ -7,10 +7,10 @@ use Rattle.hearing.specs.declared.account.TotalsAnswer.{TotalsAnswer}
 use Rattle.hearing.specs.declared.account.TotalsAnswer.TheVariants as totals
 use Rattle.record.specs.declared.seat.Totals.{Totals}
 
-abbrev pub packetAnswer : PacketAnswer → Answer Hearing
-packetAnswer (hearing.Accepted h) = accepted h
-packetAnswer (hearing.Refused r) = refusal r
+abbrev pub packet_answer : PacketAnswer → Answer Hearing
+packet_answer (hearing.Accepted h) = accepted h
+packet_answer (hearing.Refused r) = refusal r
 
-abbrev pub totalsAnswer : TotalsAnswer → Answer Totals
-totalsAnswer (totals.Are t) = accepted t
-totalsAnswer (totals.Refused r) = refusal r
+abbrev pub totals_answer : TotalsAnswer → Answer Totals
+totals_answer (totals.Are t) = accepted t
+totals_answer (totals.Refused r) = refusal r

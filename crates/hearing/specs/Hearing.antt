@@ -61,9 +61,9 @@ abbrev pub heard_of : Tx → Heard
 heard_of m = record { any = true; ssrc = m.ssrc; sequence = m.sequence; field = field_heard m }
 
 -- "21 | PTT on for Idle or Rxonly; Coupling PTT for TxRx; lesson seat with PTT on other than Test"
-unfoldable pub keying_barred : (isLesson : Bool) (call : ℕ) → Tx → Bool
-keying_barred isLesson call m =
-    (ptt_on m.ptt && not (may_key call)) || (eqb m.ptt coupling && is_tx_rx call) || (isLesson && ptt_on m.ptt && not (eqb m.ptt test))
+unfoldable pub keying_barred : (is_lesson : Bool) (call : ℕ) → Tx → Bool
+keying_barred is_lesson call m =
+    (ptt_on m.ptt && not (may_key call)) || (eqb m.ptt coupling && is_tx_rx call) || (is_lesson && ptt_on m.ptt && not (eqb m.ptt test))
 
 -- "22 | ptt-id not the seat's own; with PTT off 0 also passes"
 unfoldable pub id_allowed : (own : ℕ) → Tx → Bool
@@ -71,8 +71,8 @@ id_allowed own m = eqb m.id own || (not (ptt_on m.ptt) && eqb m.id 0)
 
 -- "23 | main/standby item .. on a single radio; main/standby item from a lesson seat"; 02, request 10: "23 also for an item of 1 here; a lesson
 -- seat's item is still refused"
-unfoldable pub side_barred : (isLesson : Bool) → Kind → Tx → Bool
-side_barred isLesson kind m = item_barred kind m.side || (isLesson && has_side m.side)
+unfoldable pub side_barred : (is_lesson : Bool) → Kind → Tx → Bool
+side_barred is_lesson kind m = item_barred kind m.side || (is_lesson && has_side m.side)
 
 abbrev pub message_in : List ℕ → Tx
 message_in p = as_tx (message_of p)
@@ -114,8 +114,8 @@ unfoldable pub takes_effect : (old new : Field) → Bool
 takes_effect old new = new.sided && not (old.sided && beq old.standby new.standby)
 
 -- 02, request 10: "An item of 0 is accepted and moves nothing"
-unfoldable pub side_after : Kind → (old new : Field) → (inUse : Bool) → Bool
-side_after kind old new inUse = cond (items_move_side kind && takes_effect old new) new.standby inUse
+unfoldable pub side_after : Kind → (old new : Field) → (in_use : Bool) → Bool
+side_after kind old new in_use = cond (items_move_side kind && takes_effect old new) new.standby in_use
 
 -- The bench after an accepted message: its seat, the order of keyings, and the side in use.
 unfoldable pub heard_bench : Bench → (n : ℕ) → Tx → Bench

@@ -1,7 +1,7 @@
 // The totals of a seat: how many packets it heard since it was opened, and how many were missing before them.
 ghost use Rattle.std.specs.Prelude.{◌≡◌};
 ghost use Rattle.hearing.specs.Account.{totals_said};
-ghost use Rattle.hearing.specs.Answers.{totalsAnswer};
+ghost use Rattle.hearing.specs.Answers.{totals_answer};
 
 use packet::{Refusal, Verdict};
 use record::{Bench, Totals, seat_of};
@@ -15,7 +15,7 @@ pub enum TotalsAnswer {
 
 // The totals of seat n. Refused by 13, 14, in this order. The bench is only read.
 pub fn totals(b: Bench, n: u8) -> TotalsAnswer
-    ensures { totalsAnswer result ≡ totals_said b n }
+    ensures { totals_answer result ≡ totals_said b n }
 {
     let seats = b.seats;
     let s = seat_of(seats, n);

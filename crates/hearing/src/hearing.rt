@@ -5,7 +5,7 @@ ghost use Rattle.record.specs.Record.{entry_of, settled};
 ghost use Rattle.air.specs.Air.{aired};
 ghost use Rattle.reader.specs.Reading.{tx_answer};
 ghost use Rattle.hearing.specs.Hearing.{message_in, heard_bench, packet_said, audio_in, audio_at};
-ghost use Rattle.hearing.specs.Answers.{packetAnswer};
+ghost use Rattle.hearing.specs.Answers.{packet_answer};
 ghost use Rattle.hearing.specs.Pieces.{admitted, let_in};
 
 use crate::admission::message_verdict;
@@ -42,7 +42,7 @@ pub struct Packeted {
 
 // A packet for seat n: what it answers, and the bench after it. Refused by 13, 14, 1 to 12, 19 to 23, 33, in this order.
 pub fn packet(b: Bench, n: u8, p: &[u8]) -> Packeted
-    ensures answer { packetAnswer result.answer ≡ packet_said b n p.now }
+    ensures answer { packet_answer result.answer ≡ packet_said b n p.now }
     ensures bench { result.bench ≡ settled (packet_said b n p.now) b (aired (heard_bench b n (message_in p.now))) }
 {
     let setup = b.setup;
@@ -82,8 +82,8 @@ pub fn packet(b: Bench, n: u8, p: &[u8]) -> Packeted
 
 // The audio to send, as a part of the lent packet: its payload where the answer says that it is sent, else an empty part.
 pub fn audio(answer: PacketAnswer, p: &[u8]) -> &[u8]
-    ensures holds { result.now ≡ audio_in (packetAnswer answer) p.now }
-    ensures lies { LiesAt p.entry (audio_at (packetAnswer answer) p.now) result }
+    ensures holds { result.now ≡ audio_in (packet_answer answer) p.now }
+    ensures lies { LiesAt p.entry (audio_at (packet_answer answer) p.now) result }
 {
     match answer {
         PacketAnswer::Refused(_) => part(p, 0, 0),

@@ -39,4 +39,4 @@ open_there seats n s e = rw e
 pub span_fits : (period multiplier : ℕ) → period < 65536 → multiplier < 256 → Fits w32 (period * multiplier)
 span_fits p m h k = record { fits = lt_of_le_of_lt (mul-le-mul {n₂ = 65535} {m₂ = 255} (omega arith) (omega arith)) (lit< tt) }
 
-pub ruleset recordCases = (a_seat, seat_from_one, seat_in_place, seat_none, seat_there, open_there, span_fits, rules)
+pub ruleset record_cases = (a_seat, seat_from_one, seat_in_place, seat_none, seat_there, open_there, span_fits, rules)

@@ -15,14 +15,14 @@ use Rattle.packet.specs.declared.refusal.Verdict.TheVariants as verdict
 use Rattle.record.specs.Record.{no_such_seat, seat_of, lesson, closed_seat, settled}
 use Rattle.air.specs.Air.{aired}
 use Rattle.seats.specs.Opening.{call_code, may_key, asks_coupling, times_allowed, holds_coupling, any_coupling, own_id, open_refusals, open_said, opened_bench, seat_refusals, seat_verdict, close_said, closed_bench}
-use Rattle.seats.specs.Answers.{openAnswer}
+use Rattle.seats.specs.Answers.{open_answer}
 use Rattle.record.specs.declared.seat.Seat.{Seat}
 use Rattle.record.specs.declared.whole.Bench.{Bench}
 use Rattle.seats.specs.declared.opening.Request.{Request}
 use Rattle.seats.specs.declared.opening.OpenAnswer.{OpenAnswer}
 use Rattle.seats.specs.declared.opening.OpenAnswer.TheVariants as opening
 use Rattle.seats.proofs.Accepted.{open_accepted, seat_accepted}
-use Rattle.record.proofs.RecordLaws.{recordCases}
+use Rattle.record.proofs.RecordLaws.{record_cases}
 
 -- ---- the call type
 
@@ -113,10 +113,10 @@ seat_there n opened e said = (seat_accepted n opened (meets_none (seat_refusals 
 
 -- ---- what an answer leaves: a seat's number where it is accepted, the bench as it was where it is refused
 
-module _ (b : Bench) (n : ℕ) (r : Request) (a : OpenAnswer) (said : openAnswer a ≡ open_said b n r) where
+module _ (b : Bench) (n : ℕ) (r : Request) (a : OpenAnswer) (said : open_answer a ≡ open_said b n r) where
   pub opened_seat_lem : (id : ℕ) → a ≡ opening.Opened id → no_such_seat n ≡ false
   unfolding open_said
-  opened_seat_lem id e = (open_accepted b.setup n b.seats r (meets_none (open_refusals b.setup n b.seats r) _ id (sym said ∙ ap openAnswer e)).0).is_seat
+  opened_seat_lem id e = (open_accepted b.setup n b.seats r (meets_none (open_refusals b.setup n b.seats r) _ id (sym said ∙ ap open_answer e)).0).is_seat
 
   pub opened_moves : (id : ℕ) (made next : Bench) → a ≡ opening.Opened id → made ≡ opened_bench b n r → next ≡ aired made
       → next ≡ settled (open_said b n r) b (aired (opened_bench b n r))
@@ -160,4 +160,4 @@ none_coupling ss n e = by_case (no_such_seat n)
     by_case true = refl
     by_case false = none_at_place ss (n - 1) e
 
-pub ruleset openingCases = (asks_by, own_number, own_none, coupling_found, coupling_passed, coupling_nowhere, open_13, open_15, open_16, open_17, open_18, open_done, seat_13, seat_14, seat_fine, seat_there, opened_seat_lem, opened_moves, opened_stays, close_done, closed_moves, close_refused, closed_stays, recordCases)
+pub ruleset opening_cases = (asks_by, own_number, own_none, coupling_found, coupling_passed, coupling_nowhere, open_13, open_15, open_16, open_17, open_18, open_done, seat_13, seat_14, seat_fine, seat_there, opened_seat_lem, opened_moves, opened_stays, close_done, closed_moves, close_refused, closed_stays, record_cases)

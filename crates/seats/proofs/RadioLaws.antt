@@ -30,4 +30,4 @@ module _ (b : Bench) {one : Bool} {kind : Kind} (told : one ≡ has_one_side kin
       → next ≡ settled (side_said b) b (aired (with_side b standby))
   side_moves standby made next h m right = rw (← side_done h) (right ∙ ap aired m)
 
-pub ruleset radioCases = (side_23, side_done, side_stays, side_moves, rules)
+pub ruleset radio_cases = (side_23, side_done, side_stays, side_moves, rules)

@@ -58,6 +58,6 @@ ticked_cases P ms s closes ages stays = by_tests s.opened (nothing_left ms s) re
     by_tests true false e h = ages e (omega (arith, leb-false))
     by_tests false silent e h = stays
 
-pub ruleset phaseCases = (rest_fits, choice_true, choice_false, eq-eqb, ne_eqb, le-leb, lt-leb, rules)
+pub ruleset phase_cases = (rest_fits, choice_true, choice_false, eq-eqb, ne_eqb, le-leb, lt-leb, rules)
 
-pub ruleset tickingCases = (falls_closed, time_left, open_ages, closed_untouched, fill_more, fill_done, rules)
+pub ruleset ticking_cases = (falls_closed, time_left, open_ages, closed_untouched, fill_more, fill_done, rules)

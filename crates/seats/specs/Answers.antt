@@ -6,10 +6,10 @@ use Rattle.seats.specs.declared.opening.OpenAnswer.TheVariants as opening
 use Rattle.seats.specs.declared.answer.DoneAnswer.{DoneAnswer}
 use Rattle.seats.specs.declared.answer.DoneAnswer.TheVariants as closing
 
-abbrev pub openAnswer : OpenAnswer → Answer ℕ
-openAnswer (opening.Opened id) = accepted id
-openAnswer (opening.Refused r) = refusal r
+abbrev pub open_answer : OpenAnswer → Answer ℕ
+open_answer (opening.Opened id) = accepted id
+open_answer (opening.Refused r) = refusal r
 
-abbrev pub doneAnswer : DoneAnswer → Answer (Unit {0})
-doneAnswer closing.Done = accepted tt
-doneAnswer (closing.Refused r) = refusal r
+abbrev pub done_answer : DoneAnswer → Answer (Unit {0})
+done_answer closing.Done = accepted tt
+done_answer (closing.Refused r) = refusal r

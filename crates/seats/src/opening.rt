@@ -4,7 +4,7 @@ ghost use Rattle.packet.specs.Refusals.{verdict_of};
 ghost use Rattle.record.specs.Record.{no_such_seat, settled};
 ghost use Rattle.air.specs.Air.{aired};
 ghost use Rattle.seats.specs.Opening.{call_code, may_key, asks_coupling, times_allowed, holds_coupling, any_coupling, own_id, open_said, opened_bench, seat_verdict, close_said, closed_bench};
-ghost use Rattle.seats.specs.Answers.{openAnswer, doneAnswer};
+ghost use Rattle.seats.specs.Answers.{open_answer, done_answer};
 
 use crate::answer::{Done, DoneAnswer};
 use air::aired;
@@ -54,7 +54,7 @@ pub struct Opened {
 
 // Opens a seat. The answer is its own ptt-id.
 pub fn open(b: Bench, n: u8, r: Request) -> Opened
-    ensures answer { openAnswer result.answer ≡ open_said b n r }
+    ensures answer { open_answer result.answer ≡ open_said b n r }
     ensures bench { result.bench ≡ settled (open_said b n r) b (aired (opened_bench b n r)) }
 {
     let answer = open_answer(b, n, r);
@@ -73,7 +73,7 @@ pub fn open(b: Bench, n: u8, r: Request) -> Opened
 
 // Closes a seat. It can be opened again at once.
 pub fn close(b: Bench, n: u8) -> Done
-    ensures answer { doneAnswer result.answer ≡ close_said b n }
+    ensures answer { done_answer result.answer ≡ close_said b n }
     ensures bench { result.bench ≡ settled (close_said b n) b (aired (closed_bench b n)) }
 {
     let seats = b.seats;
@@ -96,7 +96,7 @@ pub fn close(b: Bench, n: u8) -> Done
 
 // 13, 15 to 18.
 fn open_answer(b: Bench, n: u8, r: Request) -> OpenAnswer
-    ensures { openAnswer result ≡ open_said b n r }
+    ensures { open_answer result ≡ open_said b n r }
 {
     let seats = b.seats;
     let setup = b.setup;

@@ -3,7 +3,7 @@ ghost use Rattle.std.specs.Prelude.{◌≡◌};
 ghost use Rattle.record.specs.Record.{settled, with_signals, with_health, with_side};
 ghost use Rattle.air.specs.Air.{aired};
 ghost use Rattle.seats.specs.Radio.{side_said};
-ghost use Rattle.seats.specs.Answers.{doneAnswer};
+ghost use Rattle.seats.specs.Answers.{done_answer};
 
 use crate::answer::{Done, DoneAnswer};
 use air::aired;
@@ -32,7 +32,7 @@ pub fn transmitter(b: Bench, healthy: bool) -> Bench
 
 // The side now in use, set by the radio itself. 23 on a single radio.
 pub fn side(b: Bench, standby: bool) -> Done
-    ensures answer { doneAnswer result.answer ≡ side_said b }
+    ensures answer { done_answer result.answer ≡ side_said b }
     ensures bench { result.bench ≡ settled (side_said b) b (aired (with_side b standby)) }
 {
     let setup = b.setup;

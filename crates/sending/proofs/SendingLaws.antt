@@ -220,10 +220,10 @@ module _ (b : Bench) (ms timestamp : ℕ) (out : List ℕ) where
       unfolding sent_bench bench_air keyings
       moves next g = g ∙ rw (e, f, ← accepts)
 
-pub ruleset putCases = (due_length, due_put, no_length, none_put, rules)
+pub ruleset put_cases = (due_length, due_put, no_length, none_put, rules)
 
-pub ruleset furtherCases = (none_moved, further_more, further_done, rules)
+pub ruleset further_cases = (none_moved, further_more, further_done, rules)
 
-pub ruleset sendingCases = (none_yet, none_used, used_more, sent_more, rules)
+pub ruleset sending_cases = (none_yet, none_used, used_more, sent_more, rules)
 
-pub ruleset allSent = (all_in, all_used, rules)
+pub ruleset all_sent_cases = (all_in, all_used, rules)

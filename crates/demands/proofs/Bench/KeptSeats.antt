@@ -38,8 +38,8 @@ use Rattle.hearing.proofs.Accepted.{PacketAccepted, type_known}
 
 -- ---- the last field
 
-pub zero_field_kept : (isLesson : Bool) (kind : Kind) (call own : ℕ) → FieldKept isLesson kind call own zero_field
-zero_field_kept isLesson kind call own =
+pub zero_field_kept : (is_lesson : Bool) (kind : Kind) (call own : ℕ) → FieldKept is_lesson kind call own zero_field
+zero_field_kept is_lesson kind call own =
     record {
       type_known = omega arith;
       may_key = λ e. cc;
@@ -69,7 +69,7 @@ on_or_off zero h = refl
 on_or_off (suc k) h = simp (lt-ltb 0 (suc k) (omega arith), le-leb (suc k) 5 h, ne_eqb (suc k) 0 (λ (e : suc k ≡ 0). omega arith))
 
 -- 21 to 23 not met, over their tests
-tests_only : (isLesson on off test : Bool) → on ≡ not off → isLesson && on && not test ≡ false → isLesson ≡ true → off || test ≡ true
+tests_only : (is_lesson on off test : Bool) → on ≡ not off → is_lesson && on && not test ≡ false → is_lesson ≡ true → off || test ≡ true
 tests_only true on true test is e h = refl
 tests_only true true false test is e h = not-false test e
 tests_only true false false test is e h = cc
@@ -80,15 +80,15 @@ own_or_off true on none e h = refl
 own_or_off false true none e h = e
 own_or_off false false none e h = h
 
-module _ (isLesson : Bool) (kind : Kind) (call own : ℕ) (m : Tx) where
-  heard_field_kept : m.ptt ≤ 5 → keying_barred isLesson call m ≡ false → id_allowed own m ≡ true → side_barred isLesson kind m ≡ false
-      → FieldKept isLesson kind call own (field_heard m)
+module _ (is_lesson : Bool) (kind : Kind) (call own : ℕ) (m : Tx) where
+  heard_field_kept : m.ptt ≤ 5 → keying_barred is_lesson call m ≡ false → id_allowed own m ≡ true → side_barred is_lesson kind m ≡ false
+      → FieldKept is_lesson kind call own (field_heard m)
   unfolding keying_barred id_allowed field_heard
   heard_field_kept small barred allowed sided =
       let on = ptt_on m.ptt in
       let keys = is_tx_rx call || is_coupling call in
       let alone = eqb m.ptt 2 && is_tx_rx call in
-      let lessons = isLesson && on && not (eqb m.ptt 5) in
+      let lessons = is_lesson && on && not (eqb m.ptt 5) in
       let first = or_left (on && not keys || alone) lessons barred in
       let on_keys : on ≡ true → keys ≡ true = λ e. not-false keys (and_rest on (not keys) (or_left (on && not keys) alone first) e) in
       let not_txrx : eqb m.ptt 2 ≡ true → is_tx_rx call ≡ false = and_rest (eqb m.ptt 2) (is_tx_rx call) (or_right (on && not keys) alone first) in
@@ -96,12 +96,12 @@ module _ (isLesson : Bool) (kind : Kind) (call own : ℕ) (m : Tx) where
         type_known = small;
         may_key = on_keys;
         coupling_keys = λ e. or_rest (is_tx_rx call) (is_coupling call) (on_keys (ap ptt_on e)) (not_txrx (eq-eqb m.ptt 2 e));
-        lesson_only_tests = tests_only isLesson on (eqb m.ptt 0) (eqb m.ptt 5) (on_or_off m.ptt small) (or_right (on && not keys || alone) lessons barred);
+        lesson_only_tests = tests_only is_lesson on (eqb m.ptt 0) (eqb m.ptt 5) (on_or_off m.ptt small) (or_right (on && not keys || alone) lessons barred);
         own_or_none = by_id (eqb m.id own) refl;
         keyed_own = λ e. eqb-true m.id own (own_or_off (eqb m.id own) on (eqb m.id 0) allowed e);
-        no_item_single = no_item_single isLesson kind m sided;
-        zero_or_none_shared = zero_or_none_shared isLesson kind m sided;
-        no_item_lesson = no_item_lesson isLesson kind m sided;
+        no_item_single = no_item_single is_lesson kind m sided;
+        zero_or_none_shared = zero_or_none_shared is_lesson kind m sided;
+        no_item_lesson = no_item_lesson is_lesson kind m sided;
         no_delay = no_delay m.climax;
         no_side = no_side m.side;
       }

@@ -77,7 +77,7 @@ unfolding after last_side
 run b [] shared = refl
 run b (c ∷ cs) shared =
     run (keeping b c).bench cs (ap (λ (setup : Setup). kind_of setup.kind) (setup_kept b c) ∙ shared)
-    ∙ ap (λ (inUse : Bool). last_side inUse cs) (by_each_call b shared c)
+    ∙ ap (λ (in_use : Bool). last_side in_use cs) (by_each_call b shared c)
 
 side_answered : (b : Bench) (n : ℕ) (p : List ℕ) (h : Hearing) (sound : List ℕ) → IsShared b
     → (keeping b (packet n p)).answer ≡ accepted (heard h sound) → h.standby ≡ b.standby

@@ -50,8 +50,8 @@ module _ (b : Bench) (n : ℕ) (p : List ℕ) (i : Held b) (live : lesson b.setu
     unfolding hearing
     standby_low = ap (λ (x : Bench). x.standby) (heard_low b n (message_in p) live passed.is_seat) ∙ (unfold low in refl)
 
-    answer_low : (isTest up : Bool) → eqb (message_in p).ptt test && not (message_in p).pm ≡ isTest → live_above_test (heard_bench b n (message_in p)) seat_numbers ≡ up
-        → fixed b.setup up isTest (told p (hearing (low b) n p)) ≡ fixed b.setup up isTest (told p (hearing b n p))
+    answer_low : (is_test up : Bool) → eqb (message_in p).ptt test && not (message_in p).pm ≡ is_test → live_above_test (heard_bench b n (message_in p)) seat_numbers ≡ up
+        → fixed b.setup up is_test (told p (hearing (low b) n p)) ≡ fixed b.setup up is_test (told p (hearing b n p))
     unfolding fixed
     answer_low true true e u = simp (missing_low, reply_low, standby_low, sent_low (sent_same b n p i live passed (up_next u)))
     -- at other times a Test keying may be sent in one and not in the other

@@ -47,7 +47,7 @@ heard_low b n m live real =
 
 -- ---- a live seat's packet
 
-unkeyed : (part on isTest muted : Bool) → isTest && not muted ≡ false → part && (on && not muted) && isTest ≡ false
+unkeyed : (part on is_test muted : Bool) → is_test && not muted ≡ false → part && (on && not muted) && is_test ≡ false
 unkeyed part on false muted e = simp and_none
 unkeyed part on true true e = simp and_none
 unkeyed part on true false e = absurd (false≢true (sym e))

@@ -51,17 +51,17 @@ after_one_more b (d ∷ run) c = after_one_more (keeping b d).bench run c
 
 -- ---- while the condition is met answers are compared whole
 
-whole : {A : Type 0} (setup : Setup) (isTest : Bool) (tell : A → Said) → ((x : A) → fixed setup true isTest (tell x) ≡ tell x)
-    → (a : Answer A) → mapped (fixed setup true isTest) (mapped tell a) ≡ mapped tell a
-whole setup isTest tell h (accepted x) = ap accepted (h x)
-whole setup isTest tell h (refused n c) = refl
+whole : {A : Type 0} (setup : Setup) (is_test : Bool) (tell : A → Said) → ((x : A) → fixed setup true is_test (tell x) ≡ tell x)
+    → (a : Answer A) → mapped (fixed setup true is_test) (mapped tell a) ≡ mapped tell a
+whole setup is_test tell h (accepted x) = ap accepted (h x)
+whole setup is_test tell h (refused n c) = refl
 
 packet_whole : (setup : Setup) (b : Bench) (n : ℕ) (p : List ℕ) → live_above_test (keeping b (packet n p)).bench seat_numbers ≡ true
     → compared setup (packet n p) (keeping b (packet n p)) ≡ (keeping b (packet n p)).answer
 unfolding compared does packet_said
 packet_whole setup b n p up = rw up (by_keying (keys_test (packet n p)))
   where
-    by_keying : (isTest : Bool) → mapped (fixed setup true isTest) (keeping b (packet n p)).answer ≡ (keeping b (packet n p)).answer
+    by_keying : (is_test : Bool) → mapped (fixed setup true is_test) (keeping b (packet n p)).answer ≡ (keeping b (packet n p)).answer
     by_keying true = whole setup true (told p) (λ x. unfold fixed in refl) (packet_said b n p)
     by_keying false = whole setup false (told p) (λ x. unfold fixed in refl) (packet_said b n p)
 
@@ -90,14 +90,14 @@ record_whole setup c n live o up = rw up (by_answer _ o.answer)
     by_seat records true none = rw none
     by_seat records false real = record_compared setup n real live true records
 
-    by_answer : (isTest : Bool) (a : Answer Said) → record_to n (mapped (fixed setup true isTest) a) ≡ record_to n a
-    by_answer isTest (accepted done) = refl
-    by_answer isTest (accepted (own id)) = refl
-    by_answer isTest (accepted (heard h sound)) = refl
-    by_answer isTest (accepted (ticked closed due records)) = by_seat records (no_such_seat n) refl
-    by_answer isTest (accepted (written bytes)) = refl
-    by_answer isTest (accepted (totalled packets missing)) = refl
-    by_answer isTest (refused k cause) = refl
+    by_answer : (is_test : Bool) (a : Answer Said) → record_to n (mapped (fixed setup true is_test) a) ≡ record_to n a
+    by_answer is_test (accepted done) = refl
+    by_answer is_test (accepted (own id)) = refl
+    by_answer is_test (accepted (heard h sound)) = refl
+    by_answer is_test (accepted (ticked closed due records)) = by_seat records (no_such_seat n) refl
+    by_answer is_test (accepted (written bytes)) = refl
+    by_answer is_test (accepted (totalled packets missing)) = refl
+    by_answer is_test (refused k cause) = refl
 
 -- ---- the corollary
 

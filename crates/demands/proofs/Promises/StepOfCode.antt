@@ -9,7 +9,7 @@ use Rattle.record.specs.Record.{settled}
 use Rattle.writer.specs.Writing.{filled, written_answer}
 use Rattle.seats.specs.Ticking.{silent_seats, due_seats}
 use Rattle.hearing.specs.Account.{totals_said}
-use Rattle.hearing.specs.Answers.{totalsAnswer}
+use Rattle.hearing.specs.Answers.{totals_answer}
 use Rattle.reporting.specs.Reporting.{report_refusals, report_said, report_bytes, report_buffer}
 use Rattle.sending.specs.Sending.{tick_refusals, after_closings, records, sent_bytes, tick_said, no_seats, named_in, tick_sets, tick_buffer}
 use Rattle.bench.specs.Step.{Said, own, done, told, ticked, written, totals, counts, does, keeping}
@@ -61,7 +61,7 @@ unmoved : {A : Type 0} (answer : Answer A) (b : Bench) → settled answer b b �
 unmoved (accepted a) b = refl
 unmoved (refused n cause) b = refl
 
-counted : (b : Bench) (n : ℕ) (r : TotalsAnswer) → totalsAnswer r ≡ totals_said b n → did (mapped counts (totalsAnswer r)) b ≡ keeping b (totals n)
+counted : (b : Bench) (n : ℕ) (r : TotalsAnswer) → totals_answer r ≡ totals_said b n → did (mapped counts (totals_answer r)) b ≡ keeping b (totals n)
 unfolding does
 counted b n r e = ap₂ did (ap (mapped counts) e) (sym (unmoved (totals_said b n) b))
 

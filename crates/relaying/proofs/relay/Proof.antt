@@ -49,7 +49,7 @@ use Rattle.record.specs.contracts.whole.Bench as bench
 use Rattle.record.proofs.whole.Bench.TheLaws as bench-laws
 use Rattle.air.specs.Air.{aired}
 use Rattle.hearing.specs.Hearing.{message_in, heard_bench, packet_said, audio_in, audio_at}
-use Rattle.hearing.specs.Answers.{packetAnswer}
+use Rattle.hearing.specs.Answers.{packet_answer}
 use Rattle.hearing.specs.declared.hearing.Packeted.{Packeted}
 use Rattle.hearing.specs.contracts.hearing.Packeted as packeted
 use Rattle.hearing.proofs.hearing.Packeted.TheLaws as packeted-laws
@@ -138,7 +138,7 @@ module _ {M : Type 1} {𝓤 : Ura M} (𝓛 : Logic 𝓤) (mem : Memory → SProp
 
   abbrev Of-packet : Packeted → Type 0
   Of-packet h =
-      (packetAnswer h.answer ≡ packet_said b n p.now)
+      (packet_answer h.answer ≡ packet_said b n p.now)
       × (h.bench ≡ settled (packet_said b n p.now) b (aired (heard_bench b n (message_in p.now))))
 
   packet_said_lem : (h : Packeted) → ent 𝓤 (By-packet h) (fact 𝓤 (Of-packet h))
@@ -169,7 +169,7 @@ module _ {M : Type 1} {𝓤 : Ura M} (𝓛 : Logic 𝓤) (mem : Memory → SProp
 
   abbrev Of-audio : Packeted → Bor (List ℕ) → Type 0
   Of-audio h r =
-      (r.now ≡ audio_in (packetAnswer h.answer) p.now) × LiesAt p (audio_at (packetAnswer h.answer) p.now) r
+      (r.now ≡ audio_in (packet_answer h.answer) p.now) × LiesAt p (audio_at (packet_answer h.answer) p.now) r
 
   audio-said : (h : Packeted) (r : Bor (List ℕ)) → ent 𝓤 (By-audio h r) (fact 𝓤 (Of-audio h r))
   audio-said h r = ex_e 𝓤 _ (λ ws. via 𝓤 _ (snd∗ 𝓤 (sem 𝓛 (lasts audio.ended (κ, tt) (h.answer, (p, tt)) ws)) _) (both 𝓤 _ _))

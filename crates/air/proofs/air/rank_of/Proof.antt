@@ -1,4 +1,4 @@
-use Rattle.record.proofs.RecordLaws.{recordCases}
+use Rattle.record.proofs.RecordLaws.{record_cases}
 use Rattle.air.proofs.AirLaws.{rules}
 use borrow.Author.Rules.{rules}
 use Rattle.air.proofs.air.rank_of.Statement.{statement}
@@ -11,13 +11,13 @@ returns : tie.Need-returns
 returns c = search rules
 
 sub-result : tie.Need-sub-result
-sub-result c = search recordCases
+sub-result c = search record_cases
 
 cast-result : tie.Need-cast-result
 cast-result c = search rules
 
 array-read-result : tie.Need-array-read-result
-array-read-result c = search recordCases
+array-read-result c = search record_cases
 
 returns-2 : tie.Need-returns-2
 returns-2 c = search rules

@@ -2,7 +2,7 @@ use mathlib.Core.Path.{ap, sym, ◌∙◌}
 use Rattle.packet.specs.Refusals.{accepted}
 use Rattle.air.specs.Air.{aired}
 use Rattle.record.proofs.Seats.{seat_of_place}
-use Rattle.record.proofs.RecordLaws.{recordCases}
+use Rattle.record.proofs.RecordLaws.{record_cases}
 use Rattle.hearing.proofs.PacketSteps.{no_seat, packet_refused, packet_said_lem, says, total_passed, hearing_told}
 use borrow.Author.Rules.{rules}
 use Rattle.hearing.proofs.hearing.packet.Statement.{statement}
@@ -18,7 +18,7 @@ returns c =
     (sym said, simp said)
 
 sub-s : tie.Need-overflow-sub-s
-sub-s c = search recordCases
+sub-s c = search record_cases
 
 cast-s : tie.Need-overflow-cast-s
 cast-s c = search rules
@@ -27,7 +27,7 @@ mul-s : tie.Need-overflow-mul-s
 mul-s c = search rules
 
 element-copy-out-s : tie.Need-element-copy-out-s
-element-copy-out-s c = search recordCases
+element-copy-out-s c = search record_cases
 
 admitted-requires : tie.Need-admitted-requires
 admitted-requires c κs = search rules

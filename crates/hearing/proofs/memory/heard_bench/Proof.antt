@@ -1,5 +1,5 @@
 use Rattle.hearing.specs.Hearing.{heard_bench}
-use Rattle.record.proofs.RecordLaws.{recordCases}
+use Rattle.record.proofs.RecordLaws.{record_cases}
 use borrow.Author.Rules.{rules}
 use Rattle.hearing.proofs.memory.heard_bench.Statement.{statement}
 use Rattle.hearing.proofs.memory.heard_bench.Tie as tie
@@ -8,7 +8,7 @@ field-heard-requires : tie.Need-field-heard-requires
 field-heard-requires c κs = search rules
 
 sub-i : tie.Need-overflow-sub-i
-sub-i c = search recordCases
+sub-i c = search record_cases
 
 cast-i : tie.Need-overflow-cast-i
 cast-i c = search rules
@@ -23,7 +23,7 @@ mul-t15 : tie.Need-overflow-mul-t15
 mul-t15 c = search rules
 
 element-set-from-after : tie.Need-element-set-from-after
-element-set-from-after c = search recordCases
+element-set-from-after c = search record_cases
 
 side-after-requires : tie.Need-side-after-requires
 side-after-requires c κs = search rules

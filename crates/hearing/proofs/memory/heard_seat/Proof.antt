@@ -1,5 +1,5 @@
 use Rattle.hearing.specs.Hearing.{heard_seat}
-use Rattle.record.proofs.RecordLaws.{recordCases}
+use Rattle.record.proofs.RecordLaws.{record_cases}
 use borrow.Author.Rules.{rules}
 use Rattle.hearing.proofs.memory.heard_seat.Statement.{statement}
 use Rattle.hearing.proofs.memory.heard_seat.Tie as tie
@@ -11,7 +11,7 @@ cast-after-2 : tie.Need-overflow-cast-after-2
 cast-after-2 c = search rules
 
 mul-after : tie.Need-overflow-mul-after
-mul-after c = search recordCases
+mul-after c = search record_cases
 
 field-heard-requires : tie.Need-field-heard-requires
 field-heard-requires c κs = search rules

@@ -1,4 +1,4 @@
-use Rattle.record.proofs.RecordLaws.{recordCases}
+use Rattle.record.proofs.RecordLaws.{record_cases}
 use borrow.Author.Rules.{rules}
 use Rattle.record.proofs.seat.flag_of.Statement.{statement}
 use Rattle.record.proofs.seat.flag_of.Tie as tie
@@ -10,13 +10,13 @@ returns : tie.Need-returns
 returns c = simp (← c.before.no_such_seat.ensures, c.if1.true)
 
 sub-result : tie.Need-overflow-sub-result
-sub-result c = search recordCases
+sub-result c = search record_cases
 
 cast-result : tie.Need-overflow-cast-result
 cast-result c = search rules
 
 array-read-result : tie.Need-array-read-result
-array-read-result c = search recordCases
+array-read-result c = search record_cases
 
 returns-2 : tie.Need-returns-2
 returns-2 c = simp (← c.before.no_such_seat.ensures, c.if1.false)

@@ -1,19 +1,19 @@
 use Rattle.seats.specs.Opening.{closed_bench}
-use Rattle.seats.proofs.OpeningLaws.{openingCases}
+use Rattle.seats.proofs.OpeningLaws.{opening_cases}
 use Rattle.seats.proofs.opening.closed_bench.Statement.{statement}
 use Rattle.seats.proofs.opening.closed_bench.Tie as tie
 
 sub-t8 : tie.Need-overflow-sub-t8
-sub-t8 c = search openingCases
+sub-t8 c = search opening_cases
 
 cast-t9 : tie.Need-overflow-cast-t9
-cast-t9 c = search openingCases
+cast-t9 c = search opening_cases
 
 mul-t10 : tie.Need-overflow-mul-t10
-mul-t10 c = search openingCases
+mul-t10 c = search opening_cases
 
 element-set-from-next : tie.Need-element-set-from-next
-element-set-from-next c = search openingCases
+element-set-from-next c = search opening_cases
 
 returns : tie.Need-returns
 unfolding closed_bench

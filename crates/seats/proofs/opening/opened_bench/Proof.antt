@@ -1,31 +1,31 @@
 use Rattle.seats.specs.Opening.{opened_bench}
-use Rattle.seats.proofs.OpeningLaws.{openingCases}
+use Rattle.seats.proofs.OpeningLaws.{opening_cases}
 use Rattle.seats.proofs.opening.opened_bench.Statement.{statement}
 use Rattle.seats.proofs.opening.opened_bench.Tie as tie
 
 sub-i : tie.Need-overflow-sub-i
-sub-i c = search openingCases
+sub-i c = search opening_cases
 
 cast-i : tie.Need-overflow-cast-i
-cast-i c = search openingCases
+cast-i c = search opening_cases
 
 call-code-requires : tie.Need-call-code-requires
-call-code-requires c κs = search openingCases
+call-code-requires c κs = search opening_cases
 
 opened-requires : tie.Need-opened-requires
-opened-requires c κs = search openingCases
+opened-requires c κs = search opening_cases
 
 mul-t9 : tie.Need-overflow-mul-t9
-mul-t9 c = search openingCases
+mul-t9 c = search opening_cases
 
 element-set-from-next : tie.Need-element-set-from-next
-element-set-from-next c = search openingCases
+element-set-from-next c = search opening_cases
 
 mul_next : tie.Need-overflow-mul-next
-mul_next c = search openingCases
+mul_next c = search opening_cases
 
 element-write-next : tie.Need-element-write-next
-element-write-next c = search openingCases
+element-write-next c = search opening_cases
 
 returns : tie.Need-returns
 unfolding opened_bench

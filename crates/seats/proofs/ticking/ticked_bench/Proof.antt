@@ -1,10 +1,10 @@
 use Rattle.seats.specs.Ticking.{ticked_bench}
-use Rattle.seats.proofs.TickingLaws.{tickingCases}
+use Rattle.seats.proofs.TickingLaws.{ticking_cases}
 use Rattle.seats.proofs.ticking.ticked_bench.Statement.{statement}
 use Rattle.seats.proofs.ticking.ticked_bench.Tie as tie
 
 ticked-seats-requires : tie.Need-ticked-seats-requires
-ticked-seats-requires c κs = search tickingCases
+ticked-seats-requires c κs = search ticking_cases
 
 returns : tie.Need-returns
 unfolding ticked_bench
