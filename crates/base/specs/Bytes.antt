@@ -41,7 +41,7 @@ part_of from to s = take (to - from) (drop from s)
 
 -- a part that begins at a place of the slice that it was taken from: the same bytes in memory, not a copy
 abbrev pub LiesAt : Bor (List ℕ) → ℕ → Bor (List ℕ) → Type 0
-LiesAt s at r = (r.ptr.0 ≡ s.ptr.0) × (r.ptr.1 ≡ at + s.ptr.1)
+LiesAt s at r = (r.ref_ptr.0 ≡ s.ref_ptr.0) × (r.ref_ptr.1 ≡ at + s.ref_ptr.1)
 
 -- a bit of a truth
 abbrev pub bit : Bool → ℕ

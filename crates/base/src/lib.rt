@@ -1,6 +1,8 @@
 // Bytes and numbers, for every crate above: total helpers, which ask nothing of their callers.
 // Start at specs/Bytes.antt, which says what a number in a slice is; proofs/Tests.antt has the set that answers most proofs.
 // order.rt has the order of packets, said in specs/Order.antt.
+#![tactic(auto)]
+
 ghost use Rattle.std.specs.Prelude.{◌≡◌, ◌+◌, ◌*◌, min, length};
 ghost use Rattle.base.specs.Bytes.{byte_at, number16, number32, bit, part_of, LiesAt, overlaid};
 
@@ -78,6 +80,7 @@ pub fn copy_in(out: &mut [u8], from: &[u8]) -> usize
     ensures out_after { out.new ≡ overlaid from.now out.old }
 {
     let n = least(from.len(), out.len());
-    let fitting = &from[0..n];
-    bytes::copy(fitting, out)
+    let front = &mut out[0..n];
+    front.copy_from_slice(&from[0..n]);
+    n
 }

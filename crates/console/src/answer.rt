@@ -11,7 +11,7 @@ use reader::{RxRead, TxRead, payload};
 use text::{put, put_number};
 
 // The bench after a call, and where the answer ends.
-#[derive(Drop)]
+#[derive(Clone, Copy)]
 pub(crate) struct Said {
     pub(crate) bench: Bench,
     pub(crate) end: usize,

@@ -1,6 +1,8 @@
 // The class's console: one call a line on standard input, one answer a line on standard output, over the whole library.
 // session.rt has a line read by the crate grammar, which makes a call of it, and answered by answer.rt, which asks the library
 // and writes what it says (say.rt). usage.rt has the calls as they are to be written.
+#![tactic(auto)]
+
 mod answer;
 mod say;
 mod session;

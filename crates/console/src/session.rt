@@ -11,13 +11,13 @@ use text::put_byte;
 pub(crate) const LINE: usize = 2048;
 
 // The bench, and how many bytes of a line have come; LINE + 1 for a line that is longer.
-#[derive(Drop)]
+#[derive(Clone, Copy)]
 pub(crate) struct Held {
     pub(crate) bench: Bench,
     pub(crate) length: usize,
 }
 
-#[derive(Drop)]
+#[derive(Clone, Copy)]
 pub(crate) struct Turned {
     pub(crate) held: Held,
     pub(crate) more: bool,

@@ -1,4 +1,6 @@
 // Reads one TX packet from standard input and prints its line.
+#![tactic(auto)]
+
 use libc::{STDIN_FILENO, STDOUT_FILENO};
 
 fn main() {

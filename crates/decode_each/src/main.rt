@@ -1,5 +1,7 @@
 // Reads many TX packets from standard input and prints the line of each. Before each packet stands its length, in two
 // bytes, most significant first; a packet that the end of the input cuts is judged as far as it goes.
+#![tactic(auto)]
+
 ghost use Rattle.std.specs.Prelude.{◌≡◌, length};
 
 use libc::{STDIN_FILENO, STDOUT_FILENO};

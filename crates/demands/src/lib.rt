@@ -12,3 +12,5 @@
 // Second witnesses, which cite no definition that they judge: of packets LaidOut, Unreadable, FieldsRead, EachRefusal; of calls PacketTells,
 // Limits, SideMoves, EventsSet, SilenceAndDue, KeyingsInOrder, BeganFirst, OnTheAir, ReportTells, AudioSent, Accounts; of buffers BuffersStay; of
 // what demand 3 compares AtMost; of the code's parameters CallWidths. The lower crates have theirs in specs/InWords.
+
+#![tactic(auto)]

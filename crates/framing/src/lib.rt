@@ -1,5 +1,7 @@
 // RFC 4571, as document 003 has it in its table 5: a packet behind its length, for a stream that carries one packet after another.
 // Start at specs/Framing.antt, which has the frame and the law that it reads back.
+#![tactic(auto)]
+
 ghost use Rattle.std.specs.Prelude.{◌≡◌, min, length};
 ghost use Rattle.base.specs.Bytes.{bytes16, overlaid};
 

@@ -4,7 +4,7 @@ use record::Kind;
 use seats::Request;
 
 // Bytes that the line gives, a packet or audio, lie in a buffer apart; here is how many they are.
-#[derive(Drop)]
+#[derive(Clone, Copy)]
 pub enum Call {
     // A line without words.
     Nothing,
@@ -58,7 +58,7 @@ pub enum Call {
 }
 
 // A set_up whose lesson seats are bits, seat 1 the lowest: an enum that holds an array is not covered.
-#[derive(Drop)]
+#[derive(Clone, Copy)]
 pub struct SetupSaid {
     pub lessons: u8,
     pub ext: u16,
@@ -71,7 +71,7 @@ pub struct SetupSaid {
 pub const ROOM: usize = 512;
 
 // What is lent to a writer: so many bytes of audio, and a buffer of so many bytes.
-#[derive(Drop)]
+#[derive(Clone, Copy)]
 pub struct Lent {
     pub audio: usize,
     pub room: usize,

@@ -2,6 +2,8 @@
 // that `help` prints; specs/Said.antt has what one word says. Then call.rt, what a line says, and line.rt, which reads it.
 // Private: requests.rt (what `setup` and `open` are given), messages.rt (the messages that `write` is given), pieces.rt (words
 // that say more than a number).
+#![tactic(auto)]
+
 pub mod call;
 pub mod line;
 mod messages;

@@ -8,19 +8,19 @@ use base::part;
 use packet::{ClimaxItem, Rx, SideItem, SqiItem, Tx};
 use words::{ByteRead, HalfRead, NumberRead, byte, choice, dash, half, number, place_of, word};
 
-#[derive(Drop)]
+#[derive(Clone, Copy)]
 pub(crate) enum TxSaid {
     Is(Tx),
     Not,
 }
 
-#[derive(Drop)]
+#[derive(Clone, Copy)]
 pub(crate) enum RxSaid {
     Is(Rx),
     Not,
 }
 
-#[derive(Drop)]
+#[derive(Clone, Copy)]
 struct HeadSaid {
     sequence: u16,
     timestamp: u32,
@@ -28,38 +28,38 @@ struct HeadSaid {
     ptt: u8,
 }
 
-#[derive(Drop)]
+#[derive(Clone, Copy)]
 enum HeadRead {
     Is(HeadSaid),
     Not,
 }
 
-#[derive(Drop)]
+#[derive(Clone, Copy)]
 struct KeySaid {
     id: u8,
     pm: bool,
     ptts: bool,
 }
 
-#[derive(Drop)]
+#[derive(Clone, Copy)]
 enum KeyRead {
     Is(KeySaid),
     Not,
 }
 
-#[derive(Drop)]
+#[derive(Clone, Copy)]
 enum ClimaxRead {
     Is(ClimaxItem),
     Not,
 }
 
-#[derive(Drop)]
+#[derive(Clone, Copy)]
 enum SideRead {
     Is(SideItem),
     Not,
 }
 
-#[derive(Drop)]
+#[derive(Clone, Copy)]
 enum SqiRead {
     Is(SqiItem),
     Not,

@@ -9,38 +9,38 @@ use record::Kind;
 use seats::CallType;
 use words::{BytesRead, HalfRead, choice, dash, half, place_of};
 
-#[derive(Drop)]
+#[derive(Clone, Copy)]
 pub(crate) enum BoolRead {
     Is(bool),
     Not,
 }
 
-#[derive(Drop)]
+#[derive(Clone, Copy)]
 pub(crate) enum KindRead {
     Is(Kind),
     Not,
 }
 
-#[derive(Drop)]
+#[derive(Clone, Copy)]
 pub(crate) enum CallTypeRead {
     Is(CallType),
     Not,
 }
 
-#[derive(Drop)]
+#[derive(Clone, Copy)]
 pub(crate) enum RoomRead {
     Is(usize),
     Not,
 }
 
-#[derive(Drop)]
+#[derive(Clone, Copy)]
 pub(crate) enum LentRead {
     Is(Lent),
     Not,
 }
 
 // Seats as bits, seat 1 the lowest.
-#[derive(Drop)]
+#[derive(Clone, Copy)]
 pub(crate) enum SeatsRead {
     Are(u8),
     Not,

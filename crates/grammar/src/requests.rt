@@ -7,13 +7,13 @@ use crate::pieces::{BoolRead, CallTypeRead, KindRead, SeatsRead, call_type, kind
 use seats::Request;
 use words::{ByteRead, HalfRead, NumberRead, byte, half, hex_half, last, number, word};
 
-#[derive(Drop)]
+#[derive(Clone, Copy)]
 pub(crate) enum ModesRead {
     Are(SetupSaid),
     Not,
 }
 
-#[derive(Drop)]
+#[derive(Clone, Copy)]
 pub(crate) enum RequestRead {
     Is(Request),
     Not,

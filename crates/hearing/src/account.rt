@@ -7,7 +7,7 @@ use packet::{Refusal, Verdict};
 use record::{Bench, Totals, seat_of};
 use seats::opening::seat_verdict;
 
-#[derive(Drop)]
+#[derive(Clone, Copy)]
 pub enum TotalsAnswer {
     Are(Totals),
     Refused(Refusal),

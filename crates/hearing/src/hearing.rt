@@ -20,7 +20,7 @@ use seats::opening::seat_verdict;
 // What an accepted packet answers: packets missing before it, whether to reply now, the side in use after it, and whether its
 // audio is sent: whether its seat is on the air after it. (`audio` hands out the part of the packet that is.)
 #[repr(C)]
-#[derive(Drop)]
+#[derive(Clone, Copy)]
 pub struct Hearing {
     pub missing: u16,
     pub reply: bool,
@@ -28,13 +28,13 @@ pub struct Hearing {
     pub sent: bool,
 }
 
-#[derive(Drop)]
+#[derive(Clone, Copy)]
 pub enum PacketAnswer {
     Accepted(Hearing),
     Refused(Refusal),
 }
 
-#[derive(Drop)]
+#[derive(Clone, Copy)]
 pub struct Packeted {
     pub bench: Bench,
     pub answer: PacketAnswer,

@@ -8,7 +8,7 @@ ghost use Rattle.items.specs.ItemsIn.{items_read};
 use packet::{ClimaxItem, Direction, Items, SideItem, SqiItem, sqi_allowed};
 
 // Where the scan stands.
-#[derive(Drop)]
+#[derive(Clone, Copy)]
 pub enum Mode {
     // in the zeros at the end
     Tail,
@@ -25,7 +25,7 @@ pub enum Mode {
 }
 
 // `ddc`: a type 4 item was met.
-#[derive(Drop)]
+#[derive(Clone, Copy)]
 pub struct Scan {
     pub mode: Mode,
     pub ddc: bool,
@@ -33,7 +33,7 @@ pub struct Scan {
 }
 
 // The items of the bytes so far, or that they break a rule.
-#[derive(Drop)]
+#[derive(Clone, Copy)]
 pub enum ItemsRead {
     Items(Items),
     Broken,

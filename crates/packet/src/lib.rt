@@ -2,6 +2,8 @@
 // readers and writers share, and the quality of a level.
 // Start at specs/Packet.antt, Items.antt and Refusals.antt, which say it in 01's order; the crates `reader` and `writer` do it.
 // Apart from these, level.rt is the quality of a level, said in specs/Quality.antt.
+#![tactic(auto)]
+
 pub mod level;
 pub mod message;
 pub mod refusal;

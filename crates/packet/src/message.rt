@@ -1,28 +1,28 @@
 // What a packet says: the messages of the two directions, and the items that they may carry.
 
 // Which way a packet goes: TX from the voice switch to the radio, RX back.
-#[derive(Drop)]
+#[derive(Clone, Copy)]
 pub enum Direction {
     Tx,
     Rx,
 }
 
 // Item 1, SQI: the quality of the received signal and the method that found it.
-#[derive(Drop)]
+#[derive(Clone, Copy)]
 pub enum SqiItem {
     Absent,
     Is { quality: u8, method: u8 },
 }
 
 // Item 2, CLIMAX: the delay in ms divided by 2.
-#[derive(Drop)]
+#[derive(Clone, Copy)]
 pub enum ClimaxItem {
     Absent,
     Is(u8),
 }
 
 // Item 5, main/standby.
-#[derive(Drop)]
+#[derive(Clone, Copy)]
 pub enum SideItem {
     Absent,
     Main,
@@ -30,7 +30,7 @@ pub enum SideItem {
 }
 
 // A message from a voice switch.
-#[derive(Drop)]
+#[derive(Clone, Copy)]
 pub struct Tx {
     pub sequence: u16,
     pub timestamp: u32,
@@ -44,7 +44,7 @@ pub struct Tx {
 }
 
 // A message to a voice switch.
-#[derive(Drop)]
+#[derive(Clone, Copy)]
 pub struct Rx {
     pub sequence: u16,
     pub timestamp: u32,
@@ -60,7 +60,7 @@ pub struct Rx {
 }
 
 // Every item that a packet of either direction may carry.
-#[derive(Drop)]
+#[derive(Clone, Copy)]
 pub struct Items {
     pub sqi: SqiItem,
     pub climax: ClimaxItem,
@@ -68,7 +68,7 @@ pub struct Items {
 }
 
 // What a packet of either direction says.
-#[derive(Drop)]
+#[derive(Clone, Copy)]
 pub struct Message {
     pub sequence: u16,
     pub timestamp: u32,

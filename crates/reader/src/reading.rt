@@ -13,21 +13,21 @@ use items::{ItemsRead, items_in};
 use packet::{Direction, Items, Message, Refusal, Rx, Tx, Verdict, audio_length};
 
 // What a packet of the TX direction turned out to be.
-#[derive(Drop)]
+#[derive(Clone, Copy)]
 pub enum TxRead {
     Message(Tx),
     Refused(Refusal),
 }
 
 // What a packet of the RX direction turned out to be.
-#[derive(Drop)]
+#[derive(Clone, Copy)]
 pub enum RxRead {
     Message(Rx),
     Refused(Refusal),
 }
 
 // The same of either direction.
-#[derive(Drop)]
+#[derive(Clone, Copy)]
 enum AnyRead {
     Message(Message),
     Refused(Refusal),

@@ -4,7 +4,7 @@ ghost use Rattle.record.specs.Kind.{kind_code, kind_of, has_one_side, item_barre
 
 use packet::SideItem;
 
-#[derive(Drop)]
+#[derive(Clone, Copy)]
 pub enum Kind {
     // One radio.
     Single,

@@ -2,6 +2,8 @@
 // C host as it is; any content is legal input. Seat n has place n - 1 in every array of eight.
 // Start at specs/Record.antt, which says what stands in it at the start and what the functions below promise; specs/Kind.antt
 // has all that depends on the kind of radio.
+#![tactic(auto)]
+
 pub mod kind;
 pub mod seat;
 pub mod setup;

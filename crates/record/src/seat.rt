@@ -4,7 +4,7 @@ ghost use Rattle.record.specs.Record.{no_such_seat, opened_seat, entry_of, seat_
 
 // The field of a packet with its items, as a seat remembers it. An item is there or not, and its value, 0 where it is not.
 #[repr(C)]
-#[derive(Drop)]
+#[derive(Clone, Copy)]
 pub struct Field {
     pub ptt: u8,
     pub id: u8,
@@ -18,7 +18,7 @@ pub struct Field {
 
 // What a seat last accepted; all zero where it has heard nothing.
 #[repr(C)]
-#[derive(Drop)]
+#[derive(Clone, Copy)]
 pub struct Heard {
     pub any: bool,
     pub ssrc: u32,
@@ -28,14 +28,14 @@ pub struct Heard {
 
 // How many packets since the seat was opened (02, request 14): accepted, and missing before them.
 #[repr(C)]
-#[derive(Drop)]
+#[derive(Clone, Copy)]
 pub struct Totals {
     pub heard: u32,
     pub missing: u32,
 }
 
 #[repr(C)]
-#[derive(Drop)]
+#[derive(Clone, Copy)]
 pub struct Seat {
     pub opened: bool,
     // call type: 0 Radio-Idle, 1 Radio-Rxonly, 2 Radio-TxRx, 3 Coupling

@@ -5,7 +5,7 @@ ghost use Rattle.record.specs.Record.{lesson};
 use crate::seat::flag_of;
 
 #[repr(C)]
-#[derive(Drop)]
+#[derive(Clone, Copy)]
 pub struct Setup {
     pub lesson: [bool; 8],
     pub ext: u16,

@@ -1,7 +1,7 @@
 // What is shown of the air: who is on it, and what reports tell of it. Crate `air` works it out, and the bench keeps it.
 
 #[repr(C)]
-#[derive(Drop)]
+#[derive(Clone, Copy)]
 pub struct Air {
     pub on: [bool; 8],
     // on the air at the top rank

@@ -7,7 +7,7 @@ use crate::setup::Setup;
 use crate::shown::Air;
 
 #[repr(C)]
-#[derive(Drop)]
+#[derive(Clone, Copy)]
 pub struct Bench {
     pub setup: Setup,
     pub seats: [Seat; 8],

@@ -1,12 +1,14 @@
 // A packet for a seat and the audio to send, in one call, over `hearing::packet` and `hearing::audio`.
 // Start at specs/Relaying.antt. A struct that holds a part of what is lent is proved by hand: proofs/relay.
+#![tactic(auto)]
+
 ghost use Rattle.relaying.specs.Relaying.{Relays};
 
 use hearing::{PacketAnswer, audio, packet};
 use record::Bench;
 
 // What a packet for a seat leaves: the bench after it, its answer, and the audio to send.
-#[derive(Drop)]
+#[derive(Clone, Copy)]
 pub struct Relayed<'a> {
     pub bench: Bench,
     pub answer: PacketAnswer,

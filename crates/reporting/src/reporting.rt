@@ -12,7 +12,7 @@ use record::{Air, Bench, flag_of, is_open, no_such_seat, seat_of};
 use seats::opening::{own_id, seat_verdict};
 use writer::{Written, put_rx};
 
-#[derive(Drop)]
+#[derive(Clone, Copy)]
 pub struct Reported {
     pub bench: Bench,
     pub answer: Written,

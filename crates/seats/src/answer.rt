@@ -2,14 +2,14 @@
 use packet::Refusal;
 use record::Bench;
 
-#[derive(Drop)]
+#[derive(Clone, Copy)]
 pub enum DoneAnswer {
     Done,
     Refused(Refusal),
 }
 
 // The bench after such a call; as it was where it is refused.
-#[derive(Drop)]
+#[derive(Clone, Copy)]
 pub struct Done {
     pub bench: Bench,
     pub answer: DoneAnswer,

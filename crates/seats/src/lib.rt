@@ -1,6 +1,8 @@
 // What opening, closing, time and the radio do to the bench. Each accepted call leaves the air right in the record (`aired`).
 // Start at specs/Opening.antt, then Ticking.antt and Radio.antt, which say in 01's order what the public functions promise;
 // specs/Answers.antt reads their answers as 01 writes them.
+#![tactic(auto)]
+
 pub mod answer;
 pub mod opening;
 pub mod radio;

@@ -12,7 +12,7 @@ use packet::{Refusal, Verdict};
 use record::{Bench, Seat, is_open, lesson_seat, no_such_seat};
 
 // The call types, in 01's order.
-#[derive(Drop)]
+#[derive(Clone, Copy)]
 pub enum CallType {
     Idle,
     RxOnly,
@@ -30,7 +30,7 @@ const FEWEST: u8 = 2;
 const MOST: u8 = 50;
 
 // What a seat is opened with.
-#[derive(Drop)]
+#[derive(Clone, Copy)]
 pub struct Request {
     pub call: CallType,
     pub period: u16,
@@ -39,14 +39,14 @@ pub struct Request {
     pub sequence: u16,
 }
 
-#[derive(Drop)]
+#[derive(Clone, Copy)]
 pub enum OpenAnswer {
     // its own ptt-id
     Opened(u8),
     Refused(Refusal),
 }
 
-#[derive(Drop)]
+#[derive(Clone, Copy)]
 pub struct Opened {
     pub bench: Bench,
     pub answer: OpenAnswer,

@@ -25,14 +25,14 @@ const ROOM: usize = 208;
 
 // Sets of seats: those closed by silence, and those due a report. Seat n has place n - 1.
 #[repr(C)]
-#[derive(Drop)]
+#[derive(Clone, Copy)]
 pub struct SeatSets {
     pub closed: [bool; 8],
     pub due: [bool; 8],
 }
 
 // `answer`: the bytes used, or a refusal.
-#[derive(Drop)]
+#[derive(Clone, Copy)]
 pub struct Ticked {
     pub bench: Bench,
     pub answer: Written,

@@ -4,25 +4,25 @@ ghost use Rattle.words.specs.Numbers.{digit_of, number_in, half_of, byte_of, lev
 
 use base::{byte_at, part};
 
-#[derive(Drop)]
+#[derive(Clone, Copy)]
 pub enum NumberRead {
     Is(u32),
     Not,
 }
 
-#[derive(Drop)]
+#[derive(Clone, Copy)]
 pub enum HalfRead {
     Is(u16),
     Not,
 }
 
-#[derive(Drop)]
+#[derive(Clone, Copy)]
 pub enum ByteRead {
     Is(u8),
     Not,
 }
 
-#[derive(Drop)]
+#[derive(Clone, Copy)]
 pub enum LevelRead {
     Is(i16),
     Not,

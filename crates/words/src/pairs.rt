@@ -6,7 +6,7 @@ ghost use Rattle.words.specs.Pairs.{is_dash, is_hex, pairs, bytes_said, bytes_la
 
 use crate::numbers::digit;
 
-#[derive(Drop)]
+#[derive(Clone, Copy)]
 pub enum BytesRead {
     Are(usize),
     Not,

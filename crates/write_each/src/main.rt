@@ -1,5 +1,7 @@
 // Writes many messages, one for each record of standard input (record.rt), and prints a line for each: the answer, and the
 // whole lent buffer, so that the bytes behind the packet are seen too. A record that the end of the input cuts is left out.
+#![tactic(auto)]
+
 ghost use Rattle.std.specs.Prelude.{◌≡◌, length};
 
 mod line;

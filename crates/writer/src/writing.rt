@@ -6,7 +6,7 @@ use crate::plain::{fewest_words, put_packet};
 use packet::{ClimaxItem, Items, Message, Refusal, Rx, SqiItem, Tx, audio_length, sqi_allowed};
 
 // What became of a message to write: the length of its packet, or a refusal.
-#[derive(Drop)]
+#[derive(Clone, Copy)]
 pub enum Written {
     Length(usize),
     Refused(Refusal),
