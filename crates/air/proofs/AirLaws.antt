@@ -84,4 +84,4 @@ module _ (leads : List Bool) (coupling_summation : Bool) (top : ℕ) (order rank
   unfolding added_at mark_all
   added_none c = simp c
 
-pub ruleset rules = (codes, keyed_muted, keyed_on, standing_ranked, standing_muted, standing_out, rank_none, rank_there, ptts_several, ptts_sent, leads_nobody, leads_all, leads_first, added_coupled, added_under, added_none, air_found, turns, rules)
+pub ruleset air_cases = (codes, keyed_muted, keyed_on, standing_ranked, standing_muted, standing_out, rank_none, rank_there, ptts_several, ptts_sent, leads_nobody, leads_all, leads_first, added_coupled, added_under, added_none, air_found, turns, rules)

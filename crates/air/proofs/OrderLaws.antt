@@ -101,4 +101,4 @@ module _ (n : ℕ) (old new : Field) (order : List ℕ) (a : Bool) (asked : a �
   unfolding order_after
   order_stays e = rw (← asked, e)
 
-pub ruleset rules = (carry_moves, carry_keeps, moved_eight, moved_more, moved_done, begins_unkeyed, begins_first, begins_other, order_moves, order_stays, rules)
+pub ruleset order_cases = (carry_moves, carry_keeps, moved_eight, moved_more, moved_done, begins_unkeyed, begins_first, begins_other, order_moves, order_stays, rules)

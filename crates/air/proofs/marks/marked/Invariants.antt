@@ -1,0 +1,10 @@
+use Prim.Native.Nat.{◌+◌, ◌-◌, ◌≤◌}
+use mathlib.Core.Path.{◌≡◌}
+use native.Mathlib.Omega.{arith}
+use lib.ListN.{drop}
+use Rattle.base.specs.Lists.{how_many}
+use Rattle.base.proofs.Truths.{bit_most}
+use Rattle.air.proofs.marks.marked.Given as goal
+
+abbrev pub invariant-loop-i : goal.invariant-loop-i
+invariant-loop-i l = (l.i ≤ 8) × (l.n ≤ l.i) × (l.n + how_many (λ m. m) (drop l.i l.marks) ≡ how_many (λ m. m) l.marks)
