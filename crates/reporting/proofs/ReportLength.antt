@@ -13,7 +13,7 @@ use Rattle.packet.specs.declared.message.SqiItem.TheVariants as sqi
 use Rattle.packet.specs.declared.message.ClimaxItem.TheVariants as climax
 use Rattle.packet.specs.declared.message.Items.{Items}
 use Rattle.writer.specs.Writing.{from_rx, rising_items, item_bytes, fewest_words}
-use Rattle.writer.proofs.Written.{encoded_length}
+use Rattle.writer.proofs.WrittenLaws.{encoded_length}
 use Rattle.record.specs.Kind.{kind_of, has_one_side, side_told}
 use Rattle.reporting.specs.Reporting.{squ_told, report_of, report_bytes}
 use Rattle.record.specs.declared.kind.Kind.{Kind}

@@ -18,7 +18,7 @@ use Rattle.packet.proofs.Judged.{never}
 use Rattle.framing.specs.Framing.{framed}
 use Rattle.framing.proofs.Framing.{length_last}
 use Rattle.writer.specs.Writing.{from_rx, put, after_put, written_answer}
-use Rattle.writer.proofs.Written.{encoded_length, written}
+use Rattle.writer.proofs.WrittenLaws.{encoded_length, written}
 use Rattle.record.specs.Record.{settled}
 use Rattle.air.specs.Air.{keyings, bench_air, aired}
 use Rattle.seats.specs.Ticking.{is_due, silent_seats, due_seats}

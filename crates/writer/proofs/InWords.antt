@@ -21,7 +21,7 @@ use Rattle.packet.specs.declared.message.Items.{Items}
 use Rattle.packet.specs.declared.message.Message.{Message}
 use Rattle.writer.specs.Writing.{rising_items, item_bytes, fewest_words, encode, sqi_writable, climax_writable, audio_writable, writable, writer_refusals, put_refusals}
 use Rattle.writer.specs.InWords.{TwoItems, sqi_climax, sqi_side, climax_side, WriterBarred, no_type, no_id, no_method, no_quality, no_rssi, no_delay, no_length, under_20, under_24}
-use Rattle.writer.proofs.Written.{encoded_length}
+use Rattle.writer.proofs.WrittenLaws.{encoded_length}
 
 -- ---- the length of audio
 

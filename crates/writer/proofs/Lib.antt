@@ -1,4 +1,4 @@
 pub mod Words
-pub mod Written
+pub mod WrittenLaws
 pub mod TellApart
 pub mod InWords
