@@ -1,4 +1,3 @@
-use Prim.Native.Nat.{◌-◌}
 use mathlib.Core.Path.{◌≡◌}
 use Rattle.base.proofs.Loops.{filled_to}
 use Rattle.air.specs.Marks.{rank_of}

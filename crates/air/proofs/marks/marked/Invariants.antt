@@ -1,9 +1,7 @@
-use Prim.Native.Nat.{◌+◌, ◌-◌, ◌≤◌}
+use Prim.Native.Nat.{◌+◌, ◌≤◌}
 use mathlib.Core.Path.{◌≡◌}
-use native.Mathlib.Omega.{arith}
 use lib.ListN.{drop}
 use Rattle.base.specs.Lists.{how_many}
-use Rattle.base.proofs.Truths.{bit_most}
 use Rattle.air.proofs.marks.marked.Given as goal
 
 abbrev pub invariant-loop-i : goal.invariant-loop-i
