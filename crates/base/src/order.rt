@@ -17,12 +17,15 @@ fn gap(last: u16, new: u16) -> u32
     ((new as u32) + 65536 - (last as u32)) % 65536
 }
 
+// The first number whose shorter way round is back.
+const HALF: u32 = 32768;
+
 // New minus last, the shorter way round: -32768 to 32767.
 pub fn distance(last: u16, new: u16) -> i32
     ensures { result ≡ distance last new }
 {
     let forward = gap(last, new);
-    if forward < 32768 {
+    if forward < HALF {
         forward as i32
     } else {
         forward as i32 - 65536

@@ -9,14 +9,19 @@ fn floor_twentieth(x: i16) -> i16
     if x >= 0 { x / 20 } else { (x + 1) / 20 - 1 }
 }
 
+// Below this the quality is 0, above the other 15: in tenths of a dBm.
+const FAINT: i16 = -1000;
+
+const LOUD: i16 = -700;
+
 // 0 to 15, in steps of 20 tenths.
 pub fn quality(level: i16) -> u8
     ensures { result ≡ quality level }
 {
-    if level < -1000 {
+    if level < FAINT {
         return 0;
     }
-    if level > -700 {
+    if level > LOUD {
         return 15;
     }
     (floor_twentieth(level) + 50) as u8

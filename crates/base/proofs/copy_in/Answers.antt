@@ -1,13 +1,9 @@
 use Prim.Native.Nat.{ℕ, ◌-◌, min}
-use mathlib.Core.Path.{◌≡◌, ap, sym, ◌∙◌}
-use mathlib.Core.List.{◌++◌}
+use mathlib.Core.Path.{◌≡◌, ap}
 use native.Mathlib.Omega.{arith}
-use borrow.Rule.Slice.PartMut.{post_of}
-use lib.ListN.{length, take, drop, length-take}
+use lib.ListN.{length, take, length-take}
 use lib.Seq.{take-length}
-use Rattle.base.specs.Bytes.{overlaid}
 use Rattle.base.proofs.Buffers.{copied}
-use borrow.Author.Rules.{rules}
 use Rattle.base.proofs.copy_in.Goals as goal
 
 pub returns-clause-out_after : goal.returns-clause-out_after

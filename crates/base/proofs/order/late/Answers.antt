@@ -1,4 +1,3 @@
-use borrow.Author.Rules.{rules}
 use mir.Syntax.{w32}
 use Rattle.base.specs.Order.{late}
 use Rattle.base.proofs.Signed.{read_back}

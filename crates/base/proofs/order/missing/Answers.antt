@@ -1,11 +1,7 @@
-use borrow.Author.Rules.{rules}
-use Prim.Native.Nat.{ℕ}
-use mathlib.Core.Path.{◌≡◌, ◌∙◌}
 use native.Mathlib.Omega.{arith}
-use lib.IntN.{ℤ, pos, ◌-ℤ◌}
 use mir.Syntax.{w32}
 use mir.Facts.{to_z-of_z}
-use Rattle.base.specs.Order.{distance, size, missing}
+use Rattle.base.specs.Order.{distance, missing}
 use Rattle.base.proofs.Signed.{read_back, sum_fits}
 use Rattle.base.proofs.Distances.{distance_near, size_near}
 use Rattle.base.proofs.order.missing.Goals as goal
@@ -23,7 +19,7 @@ overflow_cast-result c =
 
 pub returns-then-heard : goal.returns-then-heard
 unfolding missing
-returns-then-heard c = 
+returns-then-heard c =
     rw (c.size.ensures, to_z-of_z (overflow_sub-distance c.before), read_back w32 c.distance.result c.distance.type_inv, c.distance.ensures) (simp c.if-heard.true)
 
 pub returns-else-heard : goal.returns-else-heard

@@ -1,5 +1,4 @@
 use Rattle.record.specs.Record.{lesson}
-use borrow.Author.Rules.{rules}
 use Rattle.record.proofs.setup.lesson_seat.Goals as goal
 
 pub returns : goal.returns
