@@ -18,7 +18,7 @@ use Rattle.record.specs.Kind.{kind_of, has_one_side}
 use Rattle.record.specs.Record.{no_such_seat, entry_of, seat_of}
 use Rattle.record.specs.declared.kind.Kind.TheVariants.{Single, Pair, Shared}
 use Rattle.record.specs.declared.whole.Bench.{Bench}
-use Rattle.air.specs.InWords.{TakesPart, Leads, all_of_them, the_first, Shows}
+use Rattle.air.specs.InWords.{TakesPart, Leads, all_of_them, the_first_one, Shows}
 use Rattle.seats.specs.Opening.{own_id, seat_refusals}
 use Rattle.seats.specs.InWords.{SeatBarred}
 use Rattle.seats.proofs.InWords.{seat_13, seat_14, seat_range, own_is}
@@ -65,7 +65,7 @@ module _ (b : Bench) (n timestamp : ℕ) (shown : Shows b b.air) where
 
       takes_part : Leads b n → TakesPart b n
       takes_part (all_of_them t mode) = t.part
-      takes_part (the_first t mode first) = t.part
+      takes_part (the_first_one t mode first) = t.part
 
       by_flag : (t : Bool) → entry_of false b.air.leads n ≡ t → ((k : ℕ) → TakesPart b k → ⊥) → cond t (own_id n (seat_of b.seats n).call) b.air.id ≡ 0
       by_flag true e none = absurd (none n (takes_part ((shown.leads n).0 e)))

@@ -1,0 +1,8 @@
+use Rattle.reporting.specs.Reporting.{reported_bench}
+use Rattle.record.proofs.RecordLaws.{record_cases}
+use borrow.Author.Rules.{rules}
+use Rattle.reporting.proofs.reporting.reported_bench.Goals as goal
+
+pub returns : goal.returns
+unfolding reported_bench
+returns c = simp (c.requires, c.next_sequence.ensures)
