@@ -1,5 +1,5 @@
 -- What the private functions of the report answer: pieces of the definitions in Reporting.antt, cited by their promises alone.
-use Rattle.std.specs.Prelude.{ℕ, Bool, List, [], ◌∷◌, ◌++◌}
+use Rattle.std.specs.Prelude.{ℕ, Bool, [], ◌∷◌, ◌++◌}
 use Rattle.packet.specs.Refusals.{◌if◌, Answer, judged}
 use Rattle.seats.specs.Opening.{seat_refusals}
 use Rattle.reporting.specs.Reporting.{audio_barred}

@@ -1,6 +1,4 @@
 use Rattle.reporting.specs.Reporting.{reported_bench}
-use Rattle.record.proofs.RecordLaws.{record_cases}
-use borrow.Author.Rules.{rules}
 use Rattle.reporting.proofs.reporting.reported_bench.Goals as goal
 
 pub returns : goal.returns
