@@ -1,0 +1,8 @@
+use Rattle.hearing.specs.Hearing.{heard_seat}
+use Rattle.record.proofs.RecordLaws.{record_cases}
+use borrow.Author.Rules.{rules}
+use Rattle.hearing.proofs.memory.heard_seat.Goals as goal
+
+pub returns : goal.returns
+unfolding heard_seat
+returns c = simp (c.field_heard.ensures, c.totals_after-after.ensures)
