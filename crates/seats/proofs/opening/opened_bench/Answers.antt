@@ -1,5 +1,4 @@
 use Rattle.seats.specs.Opening.{opened_bench}
-use Rattle.seats.proofs.OpeningLaws.{opening_cases}
 use Rattle.seats.proofs.opening.opened_bench.Goals as goal
 
 pub returns : goal.returns

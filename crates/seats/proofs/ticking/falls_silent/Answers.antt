@@ -1,4 +1,3 @@
-use borrow.Author.Rules.{rules}
 use Rattle.seats.specs.Ticking.{falls_silent}
 use Rattle.seats.proofs.ticking.falls_silent.Goals as goal
 

@@ -1,4 +1,3 @@
-use borrow.Author.Rules.{rules}
 use Rattle.seats.specs.Ticking.{is_due}
 use Rattle.seats.proofs.ticking.is_due.Goals as goal
 
