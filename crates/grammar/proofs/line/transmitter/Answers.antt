@@ -1,0 +1,12 @@
+use Rattle.grammar.specs.Said.{◌>>=◌}
+use Rattle.grammar.specs.Grammar.{transmitter_in}
+use Rattle.grammar.proofs.line.transmitter.Goals as goal
+
+pub returns-in-Is : goal.returns-in-Is
+unfolding transmitter_in ◌>>=◌
+returns-in-Is c =
+    simp (c.in-Is.is, ← c.second.ensures, ← c.last.ensures.holds)
+
+pub returns-in-Not : goal.returns-in-Not
+unfolding transmitter_in ◌>>=◌
+returns-in-Not c = simp (c.in-Not.is, ← c.second.ensures, ← c.last.ensures.holds)

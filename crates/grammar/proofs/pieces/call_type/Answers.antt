@@ -1,0 +1,24 @@
+use native.Mathlib.Omega.{arith}
+use Rattle.grammar.proofs.Saying.{no_value}
+use Rattle.grammar.specs.Said.{call_type_in, one_of, value_at}
+use Rattle.grammar.proofs.pieces.call_type.Goals as goal
+
+pub returns-in-0 : goal.returns-in-0
+unfolding call_type_in one_of value_at
+returns-in-0 c = simp (← c.choice.ensures, c.in-0.is)
+
+pub returns-in-1 : goal.returns-in-1
+unfolding call_type_in one_of value_at
+returns-in-1 c = simp (← c.choice.ensures, c.in-1.is)
+
+pub returns-in-2 : goal.returns-in-2
+unfolding call_type_in one_of value_at
+returns-in-2 c = simp (← c.choice.ensures, c.in-2.is)
+
+pub returns-in-3 : goal.returns-in-3
+unfolding call_type_in one_of value_at
+returns-in-3 c = simp (← c.choice.ensures, c.in-3.is)
+
+pub returns-in_default : goal.returns-in_default
+unfolding call_type_in one_of
+returns-in_default c = no_value _ c.choice.ensures (omega arith)
