@@ -7,7 +7,7 @@ use mathlib.Core.Logic.{◌↔◌, ◌⊎◌, inl, inr}
 use lib.Dec.{eqb}
 use lib.ListN.{length}
 use borrow.Author.Tests.{eqb-true, eq-eqb, ne_eqb, not-false}
-use Rattle.base.specs.Order.{late, missing}
+use Rattle.base.specs.Order.{late}
 use Rattle.base.proofs.InWords.{so_many}
 use Rattle.base.proofs.Truths.{and_none}
 use Rattle.packet.specs.declared.message.ClimaxItem.{ClimaxItem}

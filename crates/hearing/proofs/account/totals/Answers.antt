@@ -1,5 +1,4 @@
 use Rattle.hearing.proofs.AccountLaws.{totals_refused, totals_told}
-use borrow.Author.Rules.{rules}
 use Rattle.hearing.proofs.account.totals.Goals as goal
 
 pub returns-in-Refused : goal.returns-in-Refused

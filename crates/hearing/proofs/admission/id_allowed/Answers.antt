@@ -1,5 +1,4 @@
 use Rattle.hearing.specs.Hearing.{id_allowed}
-use borrow.Author.Rules.{rules}
 use Rattle.hearing.proofs.admission.id_allowed.Goals as goal
 
 pub returns : goal.returns

@@ -1,6 +1,5 @@
 use Rattle.hearing.specs.Hearing.{message_refusals}
 use Rattle.hearing.specs.Pieces.{message_verdict}
-use borrow.Author.Rules.{rules}
 use Rattle.hearing.proofs.admission.message_verdict.Goals as goal
 
 pub returns-then-other_ssrc : goal.returns-then-other_ssrc

@@ -1,5 +1,4 @@
 use Rattle.hearing.specs.Hearing.{side_barred}
-use borrow.Author.Rules.{rules}
 use Rattle.hearing.proofs.admission.side_barred.Goals as goal
 
 pub returns : goal.returns

@@ -1,5 +1,4 @@
 use Rattle.hearing.specs.Account.{totals_after, total_too_large}
-use borrow.Author.Rules.{rules}
 use Rattle.hearing.proofs.admission.total_too_large.Goals as goal
 
 pub returns : goal.returns

@@ -1,6 +1,5 @@
 use mathlib.Core.Path.{◌∙◌}
 use Rattle.hearing.proofs.PacketSteps.{by_seat, by_reader, by_message}
-use borrow.Author.Rules.{rules}
 use Rattle.hearing.proofs.hearing.admitted.Goals as goal
 
 pub returns-in-Refused : goal.returns-in-Refused

@@ -1,5 +1,4 @@
 use Rattle.hearing.proofs.PacketSteps.{message_refused, message_taken}
-use borrow.Author.Rules.{rules}
 use Rattle.hearing.proofs.hearing.let_in.Goals as goal
 
 pub returns-in-Refused : goal.returns-in-Refused

@@ -2,9 +2,7 @@ use mathlib.Core.Path.{ap, sym, ◌∙◌}
 use Rattle.packet.specs.Refusals.{accepted}
 use Rattle.air.specs.Air.{aired}
 use Rattle.record.proofs.Seats.{seat_of_place}
-use Rattle.record.proofs.RecordLaws.{record_cases}
 use Rattle.hearing.proofs.PacketSteps.{no_seat, packet_refused, packet_said_lem, says, total_passed, hearing_told}
-use borrow.Author.Rules.{rules}
 use Rattle.hearing.proofs.hearing.packet.Goals as goal
 
 pub returns-then-no_such_seat-clause-answer : goal.returns-then-no_such_seat-clause-answer

@@ -1,5 +1,4 @@
 use Rattle.hearing.specs.Hearing.{field_heard}
-use borrow.Author.Rules.{rules}
 use Rattle.hearing.proofs.memory.field_heard.Goals as goal
 
 pub returns : goal.returns

@@ -1,6 +1,4 @@
 use Rattle.hearing.specs.Hearing.{heard_bench}
-use Rattle.record.proofs.RecordLaws.{record_cases}
-use borrow.Author.Rules.{rules}
 use Rattle.hearing.proofs.memory.heard_bench.Goals as goal
 
 pub returns : goal.returns

@@ -1,6 +1,4 @@
 use Rattle.hearing.specs.Hearing.{heard_seat}
-use Rattle.record.proofs.RecordLaws.{record_cases}
-use borrow.Author.Rules.{rules}
 use Rattle.hearing.proofs.memory.heard_seat.Goals as goal
 
 pub returns : goal.returns

@@ -1,5 +1,4 @@
 use Rattle.hearing.specs.Hearing.{side_after}
-use borrow.Author.Rules.{rules}
 use Rattle.hearing.proofs.memory.side_after.Goals as goal
 
 pub returns-then-items_move_side-takes_effect : goal.returns-then-items_move_side-takes_effect

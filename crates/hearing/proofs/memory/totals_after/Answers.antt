@@ -1,6 +1,5 @@
 use Rattle.hearing.specs.Account.{totals_after}
 use Rattle.hearing.proofs.AccountLaws.{heard_fits, missing_fits}
-use borrow.Author.Rules.{rules}
 use Rattle.hearing.proofs.memory.totals_after.Goals as goal
 
 pub overflow_add-heard : goal.overflow_add-heard
