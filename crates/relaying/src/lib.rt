@@ -1,5 +1,5 @@
 // A packet for a seat and the audio to send, in one call, over `hearing::packet` and `hearing::audio`.
-// Start at specs/Relaying.antt. A struct that holds a part of what is lent is proved by hand: proofs/relay.
+// Start at specs/Relaying.antt.
 #![tactic(auto)]
 
 ghost use Rattle.relaying.specs.Relaying.{Relays};
