@@ -144,6 +144,7 @@ fn side_of(b: u8) -> SideItem
 }
 
 // An item that is kept, by its first byte (type in the high half, length 1 in the low half) and its value.
+#[tactic(auto, using(base::proofs::Tests::tests), unfolding(crate::specs::Scan::take_item))]
 fn take(d: Direction, items: Items, head: u8, b: u8) -> ItemsRead
     ensures { result ≡ take_item d items head b }
 {
