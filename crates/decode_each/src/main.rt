@@ -2,34 +2,35 @@
 // bytes, most significant first; a packet that the end of the input cuts is judged as far as it goes.
 #![tactic(auto)]
 
-ghost use Rattle.std.specs.Prelude.{◌≡◌, length};
-
-use libc::{STDIN_FILENO, STDOUT_FILENO};
+use std::io::{self, Read};
 
 // Answers false at the end of the input.
-fn turn(packet: &mut [u8]) -> bool
-    requires { 65536 ≡ length packet.old }
-{
-    let mut head = [0u8; 2];
-    if io::read_full(STDIN_FILENO, &mut head) < 2 {
-        return false;
+fn turn(
+    rt: &(impl Print + Alloc),
+    input: &mut impl Read,
+    packet: &mut Vec<u8>,
+) -> io::Result<bool> {
+    let mut head = Vec::new(rt.alloc());
+    if input.by_ref().take(2).read_to_end(&mut head)? < 2 {
+        return Ok(false);
     }
-    let size = base::join8(head[0], head[1]) as usize;
-    let n = io::read_full(STDIN_FILENO, &mut packet[0..size]);
+    let size = base::join8(head[0], head[1]) as u64;
+    packet.clear();
+    input.by_ref().take(size).read_to_end(packet)?;
     let mut line = [0u8; 128];
-    let end = show::decode(&mut line, 0x0167, &packet[0..n]);
-    io::write_all(STDOUT_FILENO, &line[0..end])
+    let end = show::decode(&mut line, 0x0167, packet);
+    rt.write_all(&line[0..end])?;
+    Ok(true)
 }
 
-fn main() {
-    let mut packet = io::large_buffer();
+fn main(rt: HostRuntime) -> io::Result<()> {
+    let mut input = rt.reader();
+    let mut packet = Vec::new(rt.alloc());
     // More turns than an input has packets: they show that the loop ends.
-    let mut turns = u64::MAX;
-    while 0 < turns {
-        if turn(&mut packet) {
-            turns -= 1;
-        } else {
-            turns = 0;
+    for _ in 0..u64::MAX {
+        if !turn(&rt, &mut input, &mut packet)? {
+            break;
         }
     }
+    Ok(())
 }
