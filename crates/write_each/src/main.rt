@@ -10,26 +10,26 @@ mod record;
 use crate::line::put_line;
 use crate::record::{audio_length, room, write};
 use base::part;
-use libc::{STDIN_FILENO, STDOUT_FILENO};
+use std::io::{self, Read};
 
 // Answers false at the end of the input.
-fn turn(sound: &[u8]) -> bool {
-    let mut record = [0u8; 32];
-    if io::read_full(STDIN_FILENO, &mut record) < 32 {
-        return false;
+fn turn(rt: &(impl Print + Alloc), input: &mut impl Read, sound: &[u8]) -> io::Result<bool> {
+    let mut record = Vec::new(rt.alloc());
+    if input.by_ref().take(32).read_to_end(&mut record)? < 32 {
+        return Ok(false);
     }
-    answer(&record, sound)
+    answer(rt, &record, sound)?;
+    Ok(true)
 }
 
-// Answers false if the line could not be written.
-fn answer(record: &[u8], sound: &[u8]) -> bool {
+fn answer(rt: &impl Print, record: &[u8], sound: &[u8]) -> io::Result<()> {
     let mut space = [0xEEu8; 512];
     let lent = &mut space[0..room(record)];
     let written = write(record, part(sound, 0, audio_length(record)), lent);
     // The longest line has 1,044 bytes with its end.
     let mut line = [0u8; 1056];
     let end = put_line(&mut line, written, lent);
-    io::write_all(STDOUT_FILENO, part(&line, 0, end))
+    rt.write_all(part(&line, 0, end))
 }
 
 // The audio of every message is the front of this.
@@ -45,15 +45,14 @@ fn sound() -> [u8; 512]
     bytes
 }
 
-fn main() {
+fn main(rt: HostRuntime) -> io::Result<()> {
+    let mut input = rt.reader();
     let bytes = sound();
     // More turns than an input has records: they show that the loop ends.
-    let mut turns = u64::MAX;
-    while 0 < turns {
-        if turn(&bytes) {
-            turns -= 1;
-        } else {
-            turns = 0;
+    for _ in 0..u64::MAX {
+        if !turn(&rt, &mut input, &bytes)? {
+            break;
         }
     }
+    Ok(())
 }
