@@ -1,5 +1,5 @@
 -- Second witness of `air`: 01: "the seat whose present keying began first". Of every run: from its accepted calls when each seat's present
--- keying began, and that who began earlier stands earlier in the order (which is what lockout asks: OnTheAir, the_first_lem). Nothing here
+-- keying began, and that who began earlier stands earlier in the order (which is what lockout asks: OnTheAir, the_first_one). Nothing here
 -- cites the definitions of crate `air`.
 use Rattle.std.specs.Prelude.{ℕ, suc, ◌≤◌, ◌<◌, ◌≡◌, true, false, cond, ◌||◌, List, [], ◌∷◌, ◌↔◌, eqb}
 use Rattle.packet.specs.declared.message.Tx.{Tx}

@@ -3,7 +3,7 @@
 -- A line for each public function of each crate (but `relay`: Walked); docs/PROMISES.md is the table. No promise is said again here: a line
 -- cites the `ensures` that stands in the code, as the kit reads it (`Reads.Learnt`, what a caller may rely on).
 use Rattle.std.specs.Prelude.{ℕ, ◌≡◌, List}
-use Rattle.std.specs.Borrow.{Bor}
+use Rattle.std.specs.Borrow.{Bor, MutBor}
 use Rattle.base.proofs as base
 use Rattle.packet.proofs as packet
 use Rattle.reader.proofs as reader
@@ -28,7 +28,7 @@ OneResult {K} {A} {R} {E} promise = (k : K) (a : A k) (r s : R k) (d e : E k) �
 -- The same where a buffer is lent (of the parameters at exit, `lent` is the buffer): any two results, and any two contents
 -- that the buffer is left with.
 abbrev pub OneResultAndBuffer : {K : Type 0} {A R E : K → Type 0} → (promise : (k : K) → A k → R k → E k → Type 0)
-    → (lent : (k : K) → E k → Bor (List ℕ)) → Type 0
+    → (lent : (k : K) → E k → MutBor (List ℕ)) → Type 0
 OneResultAndBuffer {K} {A} {R} {E} promise lent =
     (k : K) (a : A k) (r s : R k) (d e : E k) → promise k a r d → promise k a s e → (r ≡ s) × ((lent k d).now ≡ (lent k e).now)
 

@@ -13,16 +13,16 @@ use Rattle.relaying.specs.Relaying.{Relays}
 use Rattle.bench.specs.Step.{packet, told, keeping}
 use Rattle.record.specs.declared.whole.Bench.{Bench}
 use Rattle.relaying.specs.declared.Relayed.{Relayed}
-use Rattle.relaying.proofs as relaying
+use Rattle.relaying.specs.contracts.relay as relay
 use Rattle.demands.specs.AsksNothing.{NothingAsked}
 use Rattle.demands.specs.StepOfCode.{did}
 
 pub record Walked : Type 2 where
   -- the `ensures` of `relay`, in every model of the logic, is `Relays` of what it is passed,
-  pub relay_promises : (k : Lfts 1) (a : Args relaying.relay.signature k) (r : Relayed) (e : AtExit relaying.relay.ended k) (w : World)
-      → (relaying.relay.clauses w.𝓛 w.𝓜.mem w.𝓡.run k a).ensures tt r e ≡ fact w.𝓤 (Relays a.0 a.1.0 a.1.1.0 r)
+  pub relay_promises : (k : Lfts 1) (a : Args relay.signature k) (r : Relayed) (e : AtExit relay.ended k) (w : World)
+      → (relay.clauses w.𝓛 w.𝓜.mem w.𝓡.run k a).ensures tt r e ≡ fact w.𝓤 (Relays a.0 a.1.0 a.1.1.0 r)
   -- and nothing is asked of its caller
-  pub relay_asks : NothingAsked (λ k a g w. (relaying.relay.clauses w.𝓛 w.𝓜.mem w.𝓡.run k a).requires g)
+  pub relay_asks : NothingAsked (λ k a g w. (relay.clauses w.𝓛 w.𝓜.mem w.𝓡.run k a).requires g)
   -- any two results that satisfy it coincide: the bench, the answer, and of the part its content and where it points
   pub relay_once : (b : Bench) (n : ℕ) (p : Bor (List ℕ)) (r s : Relayed) → Relays b n p r → Relays b n p s
       → (r.bench ≡ s.bench) × (r.answer ≡ s.answer) × (r.audio.now ≡ s.audio.now) × (r.audio.ref_ptr ≡ s.audio.ref_ptr)

@@ -21,7 +21,7 @@ use Rattle.record.specs.declared.seat.Seat.{Seat}
 use Rattle.record.specs.declared.whole.Bench.{Bench}
 use Rattle.demands.specs.ExactCalls.{refusals_of}
 use Rattle.demands.specs.SeatAfter.{seat_after}
-use Rattle.air.specs.InWords.{last_field, TakesPart, place_of, Leads, all_of_them, the_first}
+use Rattle.air.specs.InWords.{last_field, TakesPart, place_of, Leads, all_of_them, the_first_one}
 use Rattle.demands.specs.BeganFirst.{Spell, spell_after, spell_through, spell_of, BeganFirst}
 use Rattle.demands.proofs.Demand1.Calls.{bench_after}
 use Rattle.demands.proofs.Demand1.ExactCalls.{calls_exact}
@@ -130,11 +130,11 @@ module _ (setup : Setup) (run : List Call) where
   is_first n lockout (all_of_them t mode) m q same =
       let kept : now.setup ≡ setup = after_run (λ (x : Bench). x.setup ≡ setup) (λ x c e. setup_kept x c ∙ e) (fresh_bench setup) run (unfold fresh_bench in refl) in
       absurd (false≢true (sym (ap (λ (x : Setup). x.equal_summation) kept ∙ lockout) ∙ mode))
-  is_first n lockout (the_first t mode least) m q same = by_case (ltb (spell_of m setup run).since (spell_of n setup run).since) refl
+  is_first n lockout (the_first_one t mode least) m q same = by_case (ltb (spell_of m setup run).since (spell_of n setup run).since) refl
     where
       by_case : (u : Bool) → ltb (spell_of m setup run).since (spell_of n setup run).since ≡ u → (spell_of n setup run).since ≤ (spell_of m setup run).since
       by_case true e = absurd (let l = is_earlier m n q t.part (ltb-true (spell_of m setup run).since (spell_of n setup run).since e) in let g = least m q same in omega arith)
       by_case false e = ltb-false (spell_of m setup run).since (spell_of n setup run).since e
 
 pub began_first : BeganFirst
-began_first = record { takes_part_lem = takes_part_lem; keyed = is_keyed; earlier = is_earlier; first = is_first }
+began_first = record { takes_part = takes_part_lem; keyed = is_keyed; earlier = is_earlier; first = is_first }

@@ -193,7 +193,7 @@ module _ (setup : Setup) (n : ℕ) (seats : List Seat) where
         lesson_not_coupling = kept.lesson_not_coupling;
         nothing_yet = λ e. cc;
         field_kept = heard_field_kept (lesson setup n) (kind_of setup.kind) s.call (own_id n s.call) (message_in p)
-            (type_known setup.ext p passed.was_read) passed.may_key passed.id_allowed_lem passed.may_ask_side;
+            (type_known setup.ext p passed.was_read) passed.may_key_lem passed.id_allowed_lem passed.may_ask_side;
         totals_most = ltb-false _ _ (unfold total_too_large in passed.total_fits);
         sequence_fits = number16_small p small 2;
         heard_ssrc_fits = omega (arith, number16_small p small 8, number16_small p small 10);

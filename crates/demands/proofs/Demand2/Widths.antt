@@ -8,6 +8,7 @@ use lib.ListN.{get_or}
 use mir.Val.{Val}
 use base.Fml.{Fml}
 use contract.Lifetimes.{Lfts}
+use denote.Builtin.{u16}
 use denote.Shadow.{shadow}
 use denote.Array.{each}
 use borrow.Fn.Kinds.{Dens, GoodsP}
@@ -17,6 +18,7 @@ use Rattle.seats.specs.Ticking.{ticked_seat, ticked_bench}
 use Rattle.reporting.specs.Reporting.{report_of}
 use Rattle.sending.specs.Sending.{after_closings}
 use Rattle.record.specs.declared.seat.Seat.{Seat}
+use Rattle.record.specs.contracts.seat.Seat as seat
 use Rattle.base.proofs.Places.{map_place}
 use Rattle.seats.proofs.TickingLaws.{ticked_cases}
 use Rattle.demands.specs.RoundTrip.{Narrow}
@@ -25,12 +27,12 @@ use Rattle.reporting.proofs as reporting
 use Rattle.sending.proofs as sending
 
 -- of every element of an array, and of what stands for one past its end
-each_holds : {A D : Type 0} (into : A → D) (own : D → List Val → Fml) (P : A → Type 0) → ((v : A) (u : Val) → shadow (own (into v) (u ∷ [])) → P v) → (vs : List A) (us : List Val)
-    → shadow (each D own (map into vs) us) → (other : A) → P other → (i : ℕ) → P (get_or vs i other)
-each_holds into own P tells [] us g other p i = p
-each_holds into own P tells (v ∷ vs) [] g other p i = absurd g
-each_holds into own P tells (v ∷ vs) (u ∷ us) g other p zero = tells v u g.0
-each_holds into own P tells (v ∷ vs) (u ∷ us) g other p (suc i) = each_holds into own P tells vs us g.1 other p i
+each_holds : {A : Type 0} (own : A → List Val → Fml) (P : A → Type 0) → ((v : A) (u : Val) → shadow (own v (u ∷ [])) → P v) → (vs : List A) (us : List Val)
+    → shadow (each A own vs us) → (other : A) → P other → (i : ℕ) → P (get_or vs i other)
+each_holds own P tells [] us g other p i = p
+each_holds own P tells (v ∷ vs) [] g other p i = absurd g
+each_holds own P tells (v ∷ vs) (u ∷ us) g other p zero = tells v u g.0
+each_holds own P tells (v ∷ vs) (u ∷ us) g other p (suc i) = each_holds own P tells vs us g.1 other p i
 
 -- of what it holds for a seat, and of the seat of a number
 entry_holds : {A : Type 0} (P : A → Type 0) (none : A) (entries : List A) (n : ℕ) → P none → ((i : ℕ) → P (get_or entries i none)) → P (entry_of none entries n)
@@ -67,9 +69,9 @@ narrow_report k a g =
     let b = g.0.1.1 in
     record {
       extension = b.0.1.1.1.0.1;
-      sequence = entry_holds (λ q. q < 2 ^ 16) 0 a.0.sequences a.1.0 (omega arith) (each_holds _ _ (λ q. q < 2 ^ 16) (λ q u h. h.1) a.0.sequences _ b.1.1.0.1.1 0 (omega arith));
+      sequence = entry_holds (λ q. q < 2 ^ 16) 0 a.0.sequences a.1.0 (omega arith) (each_holds u16.own_val (λ q. q < 2 ^ 16) (λ q u h. h.1) a.0.sequences _ b.1.1.0.1.1 0 (omega arith));
       timestamp = g.1.1.0.1;
-      ssrc = seat_holds SsrcFits a.0.seats a.1.0 none_fits (each_holds _ _ SsrcFits (λ s u h. h.1.1.1.1.1.1.1.1.0.1) a.0.seats _ b.1.0.1.1 closed_seat none_fits);
+      ssrc = seat_holds SsrcFits a.0.seats a.1.0 none_fits (each_holds seat.the_row.own_val SsrcFits (λ s u h. h.1.1.1.1.1.1.1.1.0.1) a.0.seats _ b.1.0.1.1 closed_seat none_fits);
     }
 
 -- a tick moves no SSRC, but for those of the seats that it closes
@@ -85,9 +87,9 @@ narrow_tick k a g n =
     let b = g.0.1.1 in
     record {
       extension = b.0.1.1.1.0.1;
-      sequence = entry_holds (λ q. q < 2 ^ 16) 0 a.0.sequences n (omega arith) (each_holds _ _ (λ q. q < 2 ^ 16) (λ q u h. h.1) a.0.sequences _ b.1.1.0.1.1 0 (omega arith));
+      sequence = entry_holds (λ q. q < 2 ^ 16) 0 a.0.sequences n (omega arith) (each_holds u16.own_val (λ q. q < 2 ^ 16) (λ q u h. h.1) a.0.sequences _ b.1.1.0.1.1 0 (omega arith));
       timestamp = g.1.1.0.1;
       ssrc =
           seat_holds SsrcFits (map (ticked_seat a.1.0) a.0.seats) n none_fits
-          (ticked_fits a.1.0 a.0.seats (each_holds _ _ SsrcFits (λ s u h. h.1.1.1.1.1.1.1.1.0.1) a.0.seats _ b.1.0.1.1 closed_seat none_fits));
+          (ticked_fits a.1.0 a.0.seats (each_holds seat.the_row.own_val SsrcFits (λ s u h. h.1.1.1.1.1.1.1.1.0.1) a.0.seats _ b.1.0.1.1 closed_seat none_fits));
     }

@@ -95,7 +95,7 @@ held_heard b n p h i =
     uncoupled e = rw (seat_of_place b.seats n h.is_seat) (i.meek (n - 1) e).1
 
     calm : lesson b.setup n ≡ true → rank (message_in p).ptt ≤ 1
-    calm e = test_at_most (message_in p) (seat_of b.seats n).call (rw e at h.may_key)
+    calm e = test_at_most (message_in p) (seat_of b.seats n).call (rw e at h.may_key_lem)
 
 pub held_ticked : (b : Bench) (ms : ℕ) → Held b → Held (ticked_bench b ms)
 unfolding ticked_bench
