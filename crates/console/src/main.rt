@@ -10,6 +10,7 @@ mod usage;
 
 use bench::{Bench, Kind, Setup, kind_code};
 use session::{Held, LINE, answered, turn};
+use std::io;
 
 // setup 78 0167 pair lockout interruption
 fn usual() -> Setup {
@@ -22,24 +23,22 @@ fn usual() -> Setup {
     }
 }
 
-fn main() {
+fn main(rt: HostRuntime) -> io::Result<()> {
+    let mut input = rt.reader();
     let mut line = [0u8; LINE];
     let mut held = Held {
         bench: Bench::fresh(usual()),
         length: 0,
     };
     // More turns than an input has pieces: they show that the loop ends.
-    let mut turns = u64::MAX;
-    while 0 < turns {
-        let turned = turn(held, &mut line);
-        let next = turned.held;
-        held = next;
-        if turned.more {
-            turns -= 1;
-        } else {
-            turns = 0;
+    for _ in 0..u64::MAX {
+        let turned = turn(&rt, &mut input, held, &mut line)?;
+        held = turned.held;
+        if !turned.more {
+            break;
         }
     }
     // A last line without its end is answered too.
-    answered(held.bench, held.length, &line);
+    answered(&rt, held.bench, held.length, &line)?;
+    Ok(())
 }

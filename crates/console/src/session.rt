@@ -4,7 +4,7 @@ use crate::usage::too_long;
 use base::part;
 use bench::Bench;
 use grammar::parsed;
-use libc::{STDIN_FILENO, STDOUT_FILENO};
+use std::io::{self, Read};
 use text::put_byte;
 
 // The longest line that is read, without its end.
@@ -24,31 +24,35 @@ pub(crate) struct Turned {
 }
 
 // One piece of the input; none is left where a read gives nothing.
-pub(crate) fn turn(h: Held, line: &mut [u8]) -> Turned {
-    let mut piece = io::buffer();
-    let got = libc::read(STDIN_FILENO, &mut piece);
-    let n = io::count(got, &piece);
+pub(crate) fn turn(
+    rt: &impl Print,
+    input: &mut impl Read,
+    h: Held,
+    line: &mut [u8],
+) -> io::Result<Turned> {
+    let mut piece = [0u8; 4096];
+    let n = input.read(&mut piece)?;
     if n == 0 {
-        return Turned {
+        return Ok(Turned {
             held: h,
             more: false,
-        };
+        });
     }
-    Turned {
-        held: taken(h, &piece[0..n], line),
+    Ok(Turned {
+        held: taken(rt, h, &piece[0..n], line)?,
         more: true,
-    }
+    })
 }
 
 // Answers each line that ends in the piece, and keeps the beginning of the next.
-fn taken(h: Held, piece: &[u8], line: &mut [u8]) -> Held {
+fn taken(rt: &impl Print, h: Held, piece: &[u8], line: &mut [u8]) -> io::Result<Held> {
     let mut bench = h.bench;
     let mut length = h.length;
     let mut i = 0;
     while i < piece.len() {
         let b = piece[i];
         if b == b'\n' {
-            bench = answered(bench, length, line);
+            bench = answered(rt, bench, length, line)?;
             length = 0;
         } else if length < line.len() {
             line[length] = b;
@@ -58,17 +62,17 @@ fn taken(h: Held, piece: &[u8], line: &mut [u8]) -> Held {
         }
         i += 1;
     }
-    Held { bench, length }
+    Ok(Held { bench, length })
 }
 
 // Answers one line, and writes the answer in one call.
-pub(crate) fn answered(b: Bench, length: usize, line: &[u8]) -> Bench {
+pub(crate) fn answered(rt: &impl Print, b: Bench, length: usize, line: &[u8]) -> io::Result<Bench> {
     // The longest answer, 30 ms of audio in hexadecimal, has under 600 bytes.
     let mut out = [0u8; 2048];
     if LINE < length {
         let end = too_long(&mut out);
-        send(&mut out, end);
-        return b;
+        send(rt, &mut out, end)?;
+        return Ok(b);
     }
     // Two digits a byte: no line says more.
     let mut bytes = [0u8; 1024];
@@ -77,15 +81,15 @@ pub(crate) fn answered(b: Bench, length: usize, line: &[u8]) -> Bench {
     let said = answer(b, call, s, &bytes, &mut out);
     let bench = said.bench;
     let end = said.end;
-    send(&mut out, end);
-    bench
+    send(rt, &mut out, end)?;
+    Ok(bench)
 }
 
 // A line without words is not answered.
-fn send(out: &mut [u8], end: usize) {
+fn send(rt: &impl Print, out: &mut [u8], end: usize) -> io::Result<()> {
     if end == 0 {
-        return;
+        return Ok(());
     }
     let after = put_byte(out, end, b'\n');
-    io::write_all(STDOUT_FILENO, part(out, 0, after));
+    rt.write_all(part(out, 0, after))
 }
