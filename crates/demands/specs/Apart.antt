@@ -1,4 +1,4 @@
--- Demand 3: "Take two runs from one set_up, alike in every call except those naming a lesson seat. While a healthy
+-- Demand 3: "Take two runs from one set-up, alike in every call except those naming a lesson seat. While a healthy
 -- transmitter has an unmuted live keying above Test, each report to a live seat is the same bytes in both, and no lesson
 -- audio is sent. At other times such reports differ at most in PTT type, ptt-id and PTTS. All other answers about live
 -- seats are the same, except whether a Test keying is on the air and its audio sent."

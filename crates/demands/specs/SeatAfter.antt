@@ -37,5 +37,5 @@ pub record SeatsByCalls : Type 0 where
   -- and so is the bench: calls that are refused might as well not have been made
   pub accepted_alone : (b : Bench) (cs : List Call) → after keeping b cs ≡ after keeping b (accepted_calls keeping b cs)
   pub eight_seats : (b : Bench) (c : Call) → length (keeping b c).bench.seats ≡ length b.seats
-  -- "Every set_up is allowed, and it stays fixed."
+  -- "Every set-up is allowed, and it stays fixed."
   pub setup_kept : (b : Bench) (c : Call) → (keeping b c).bench.setup ≡ b.setup

@@ -149,12 +149,12 @@ open_is_seat ss n = by_number (no_such_seat n) refl
     by_number true e up = absurd (true≢false (sym up ∙ ap (λ (s : Seat). s.opened) (seat_of_none ss n e)))
     by_number false e up = refl
 
--- a seat's flag in the set_up
+-- a seat's flag in the set-up
 pub lesson_flag : (setup : Setup) (n : ℕ) → no_such_seat n ≡ false → get_or setup.lesson (n - 1) false ≡ lesson setup n
 unfolding lesson
 lesson_flag setup n real = rw real
 
--- one set_up has one answer
+-- one set-up has one answer
 pub same_lessons : {setup other : Setup} → other ≡ setup → (n : ℕ) {t : Bool} → lesson setup n ≡ t → lesson other n ≡ t
 same_lessons e n known = ap (λ (s : Setup). lesson s n) e ∙ known
 

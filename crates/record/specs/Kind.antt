@@ -7,7 +7,7 @@ use Rattle.packet.specs.declared.message.SideItem.TheVariants.{Absent, Main, Sta
 use Rattle.record.specs.declared.kind.Kind.{Kind}
 use Rattle.record.specs.declared.kind.Kind.TheVariants.{Single, Pair, Shared}
 
--- The code that a set_up holds; any other is a single radio's.
+-- The code that a set-up holds; any other is a single radio's.
 abbrev pub kind_code : Kind → ℕ
 kind_code Single = 0
 kind_code Pair = 1

@@ -1,4 +1,4 @@
-// The kinds of radio, and every fact that depends on the kind. A set_up holds the code of its kind: the record holds no enum.
+// The kinds of radio, and every fact that depends on the kind. A set-up holds the code of its kind: the record holds no enum.
 ghost use Rattle.std.specs.Prelude.{◌≡◌};
 ghost use Rattle.record.specs.Kind.{kind_code, kind_of, has_one_side, item_barred, items_move_side, side_told};
 
@@ -14,7 +14,7 @@ pub enum Kind {
     Shared,
 }
 
-// What a set_up holds of a kind.
+// What a set-up holds of a kind.
 pub fn kind_code(kind: Kind) -> u8
     ensures { result ≡ kind_code kind }
 {

@@ -1,4 +1,4 @@
-// The record of the bench: set_up, seats, what is shown of the air, and the bench. No enum inside, so that it can cross to a
+// The record of the bench: set-up, seats, what is shown of the air, and the bench. No enum inside, so that it can cross to a
 // C host as it is; any content is legal input. Seat n has place n - 1 in every array of eight.
 // Start at specs/Record.antt, which says what stands in it at the start and what the functions below promise; specs/Kind.antt
 // has all that depends on the kind of radio.

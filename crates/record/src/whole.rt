@@ -1,4 +1,4 @@
-// The bench: set_up, seats, and what the radio is doing.
+// The bench: set-up, seats, and what the radio is doing.
 ghost use Rattle.std.specs.Prelude.{◌≡◌};
 ghost use Rattle.record.specs.Record.{fresh_bench};
 

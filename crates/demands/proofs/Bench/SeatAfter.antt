@@ -25,7 +25,7 @@ use Rattle.seats.proofs.Accepted.{open_accepted, seat_accepted}
 use Rattle.hearing.proofs.Accepted.{packet_accepted}
 use Rattle.record.proofs.Seats.{as_many_entries, seat_put, seat_changed}
 
--- ---- the set_up, and how many seats
+-- ---- the set-up, and how many seats
 
 pub same_setup : (b : Bench) (c : Call) → (bench_after b c).setup ≡ b.setup
 unfolding opened_bench closed_bench heard_bench ticked_bench sent_bench reported_bench

@@ -99,7 +99,7 @@ module _ (setup : Setup) where
   its_setup : (run : List Call) → (ran setup run).setup ≡ setup
   its_setup run = after_run (λ (b : Bench). b.setup ≡ setup) (λ b c e. setup_kept b c ∙ e) (fresh_bench setup) run fresh_setup
 
-  -- whether a seat is a lesson seat, by the set_up that the bench holds
+  -- whether a seat is a lesson seat, by the set-up that the bench holds
   pub its_lesson : (run : List Call) (n : ℕ) {t : Bool} → lesson setup n ≡ t → lesson (ran setup run).setup n ≡ t
   its_lesson run n e = same_lessons (its_setup run) n e
 
