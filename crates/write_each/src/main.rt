@@ -2,7 +2,7 @@
 // whole lent buffer, so that the bytes behind the packet are seen too. A record that the end of the input cuts is left out.
 #![tactic(auto)]
 
-ghost use Rattle.std.specs.Prelude.{◌≡◌, length};
+ghost use Rattle.std.specs.Prelude.{◌≡◌, ◌≤◌, length, IfOk};
 
 mod line;
 mod record;
@@ -12,10 +12,26 @@ use crate::record::{audio_length, room, write};
 use base::part;
 use std::io::{self, Read};
 
+// Reads until the buffer is full or the input ends, and answers how many bytes have come.
+fn read_full(input: &mut impl Read, buffer: &mut [u8]) -> io::Result<usize>
+    ensures { IfOk result (λ n. n ≤ length buffer.old) }
+{
+    let mut n = 0;
+    // Each turn but the last brings a byte.
+    for _ in 0..buffer.len() {
+        let got = input.read(&mut buffer[n..])?;
+        if got == 0 {
+            break;
+        }
+        n += got;
+    }
+    Ok(n)
+}
+
 // Answers false at the end of the input.
-fn turn(rt: &(impl Print + Alloc), input: &mut impl Read, sound: &[u8]) -> io::Result<bool> {
-    let mut record = Vec::new(rt.alloc());
-    if input.by_ref().take(32).read_to_end(&mut record)? < 32 {
+fn turn(rt: &impl Print, input: &mut impl Read, sound: &[u8]) -> io::Result<bool> {
+    let mut record = [0u8; 32];
+    if read_full(input, &mut record)? < 32 {
         return Ok(false);
     }
     answer(rt, &record, sound)?;
