@@ -1,5 +1,5 @@
--- A function whose result holds a part of what is lent is proved by a walk, and the kit makes no `Reads` of it: it has no line in Tight, in
--- AsksNothing or in StepOfCode. Here is the same of it, over its contract and the definitions that this cites.
+-- `relay`, whose result holds a part of what is lent, has no line in Tight, in AsksNothing or in StepOfCode. Here is the same of it, over its
+-- contract and the definitions that this cites. (The name is from a Rattle in which such a function was proved by a walk.)
 use Rattle.std.specs.Prelude.{ℕ, ◌≡◌, List}
 use contract.Lifetimes.{Lfts}
 use contract.Monad.{fact}

@@ -8,7 +8,7 @@
 // Of a radio whose main and standby share an address: SharedRadio. Of packets counted: Accounts, that a seat's totals are what its
 // history says; TotalsBound, where 33 comes. DueAtLeastOnce, that a seat which stays open is due within its period.
 // The code: StepOfCode and BothWays, its calls, readers and writers do as said; Tight, its promises leave one answer;
-// AsksNothing, they ask nothing of a caller; Walked, the same of a function that is proved by a walk.
+// AsksNothing, they ask nothing of a caller; Walked, the same of `relay`, whose result holds a part of what is lent.
 // Second witnesses, which cite no definition that they judge: of packets LaidOut, Unreadable, FieldsRead, EachRefusal; of calls PacketTells,
 // Limits, SideMoves, EventsSet, SilenceAndDue, KeyingsInOrder, BeganFirst, OnTheAir, ReportTells, AudioSent, Accounts; of buffers BuffersStay; of
 // what demand 3 compares AtMost; of the code's parameters CallWidths. The lower crates have theirs in specs/InWords.
