@@ -8,13 +8,13 @@ carry no audio; the packets are seat 1's, each the same but for its sequence num
 one of a thousand the seats are due. One with eight reports is 1000 ms, from the same bench each time.
 The bench lies in memory between the calls: its copy into a call and back is part of what is measured.
 
-The library is compiled at -O3 from its sources, proved or not, with the Rattle kit (`rt` on the PATH), in a temporary
-folder. The loops around the calls are C code, compiled apart, so that the compiler can move nothing out of them and drop
-nothing. Each run is a process of its own, since one process can be slower than the next from its start to its end; its time
-is that of the processor. Compare two checkouts in one run of this script: it takes about four seconds for each.
+The library is proved and built with the Rattle kit (`rt` on the PATH), with the calls as a static library over it, in a
+temporary folder. The loops around the calls are C code, compiled apart, so that the compiler can move nothing out of them
+and drop nothing. Each run is a process of its own, since one process can be slower than the next from its start to its end;
+its time is that of the processor. Compare two checkouts in one run of this script: once both are proved on this machine it
+takes about a minute for each. Figures in docs/changes are of the older kit, and are not to be compared with its.
 """
 
-import os
 import pathlib
 import platform
 import shutil
@@ -30,7 +30,8 @@ MACHINE = "x86_64"
 RUNS = 25
 
 # Each call of the library stands in one place alone, so that the compiler treats the calls of every checkout alike.
-CALLS = """
+CALLS = """#![tactic(auto)]
+
 use bench::Bench;
 use bench::CallType;
 use bench::Kind;
@@ -40,7 +41,7 @@ use bench::Setup;
 use bench::kind_code;
 use writer::Written;
 
-#[no_mangle]
+#[unsafe(no_mangle)]
 pub extern "C" fn open_all(held: &mut Bench) {
     let setup = Setup {
         lesson: [false, false, false, false, false, false, true, true],
@@ -59,19 +60,19 @@ pub extern "C" fn open_all(held: &mut Bench) {
 }
 
 // The length of the report, 0 if it is refused.
-#[no_mangle]
-pub extern "C" fn one_report(held: &mut Bench, n: u8, timestamp: u32, out: &mut [u8; 24]) -> u32 {
+#[unsafe(no_mangle)]
+pub extern "C" fn one_report(held: &mut Bench, n: u8, timestamp: u32, out: &mut [u8; 24]) -> usize {
     let silence = [0u8; 0];
     let reported = bench::report(*held, n, timestamp, &silence, out);
     *held = reported.bench;
     match reported.answer {
-        Written::Length(length) => length as u32,
+        Written::Length(length) => length,
         Written::Refused(_) => 0,
     }
 }
 
 // 1, and 0 if it is refused.
-#[no_mangle]
+#[unsafe(no_mangle)]
 pub extern "C" fn one_packet(held: &mut Bench, n: u8, data: &[u8; 20]) -> u32 {
     let heard = bench::packet(*held, n, data);
     *held = heard.bench;
@@ -82,12 +83,12 @@ pub extern "C" fn one_packet(held: &mut Bench, n: u8, data: &[u8; 20]) -> u32 {
 }
 
 // 1 and the bytes used, 0 if it is refused.
-#[no_mangle]
-pub extern "C" fn one_tick(held: &Bench, after: &mut Bench, ms: u16, timestamp: u32, out: &mut [u8; 208]) -> u32 {
+#[unsafe(no_mangle)]
+pub extern "C" fn one_tick(held: &Bench, after: &mut Bench, ms: u16, timestamp: u32, out: &mut [u8; 208]) -> usize {
     let ticked = bench::tick(*held, ms, timestamp, out);
     *after = ticked.bench;
     match ticked.answer {
-        Written::Length(used) => 1 + used as u32,
+        Written::Length(used) => used.saturating_add(1),
         Written::Refused(_) => 0,
     }
 }
@@ -98,9 +99,9 @@ pub extern "C" fn one_tick(held: &Bench, after: &mut Bench, ms: u16, timestamp: 
 LOOPS = """
 typedef unsigned char byte;
 void open_all(void *bench);
-unsigned one_report(void *bench, byte seat, unsigned timestamp, byte *out);
+unsigned long one_report(void *bench, byte seat, unsigned timestamp, byte *out);
 unsigned one_packet(void *bench, byte seat, const byte *data);
-unsigned one_tick(const void *bench, void *after, unsigned short ms, unsigned timestamp, byte *out);
+unsigned long one_tick(const void *bench, void *after, unsigned short ms, unsigned timestamp, byte *out);
 long clock(void);  // in microseconds
 int printf(const char *format, ...);
 
@@ -155,70 +156,40 @@ def wrong(why):
     sys.exit(2)
 
 
-def the_kit():
-    rt = shutil.which("rt") or stop("rt is not on the PATH: install the Rattle kit")
-    kit = pathlib.Path(os.environ.get("RATTLE_HOME") or pathlib.Path(rt).resolve().parent.parent)
-    if platform.machine() != MACHINE:
-        stop("programs are for x86-64, and a time under the kit's emulator says nothing")
-    if not (kit / "on" / MACHINE).is_dir():
-        stop(f"the kit at {kit} has nothing for this machine, {MACHINE}")
-    return kit
-
-
-def listed(folder, names):
-    """The crates of a folder, by a list of them: the source of each, and the crates that it depends on."""
-    for line in names.read_text().splitlines():
-        name, colon, below = line.partition("#")[0].partition(":")
-        if colon:
-            yield name.strip(), (folder / name.strip() / "src/lib.rt", below.split())
-
-
-def libraries(root, kit):
-    """Every library that the calls reach, and its source."""
-    known = dict(listed(kit / "libs", kit / "libs/libs.txt")) | dict(listed(root / "crates", root / "crates.txt"))
-    reached, todo = {}, ["std", "bench", "writer"]
-    while todo:
-        name = todo.pop()
-        if name not in known:
-            stop(f"there is no crate {name}, neither in {root} nor in the kit")
-        if name not in reached:
-            reached[name], below = known[name]
-            todo += below
-    return reached
-
-
-def run(why, *words):
-    ran = subprocess.run([str(word) for word in words], capture_output=True, text=True)
+def run(why, *words, where=None):
+    ran = subprocess.run([str(word) for word in words], capture_output=True, text=True, cwd=where)
     if ran.returncode != 0:
         stop(f"{why}\n{ran.stdout}{ran.stderr}".strip())
     return ran.stdout
 
 
-def compiled(kit, root, folder):
-    """The program over the library of a checkout, made in a folder; as it is run."""
-    own = kit / "on" / MACHINE
-    tools, calls, loops = own / "toolchain", folder / "calls.a", folder / "loops.o"
-    (folder / "lib.rt").write_text(CALLS)
-    (folder / "loops.c").write_text(LOOPS)
-    libs = [word for name, source in libraries(root, kit).items() for word in ("--lib", f"{name}={source}")]
-    # the command behind `rt try`, which asks for no proof
-    run(f"{root} is not compiled; `rt check bench` there says why",
-        own / "bin/rattle-cases", "--toolchain", tools, "--staticlib", calls, folder / "lib.rt", "--crate-name", "calls", *libs)
-    run("the loops are not compiled", tools / "bin/clang", "-O3", "-fPIC", "-c", folder / "loops.c", "-o", loops)
-    run("the program is not linked",
-        own / "bin/rattle-link", "--target", "x86_64-unknown-linux-gnu", "--toolchain", tools, "-o", folder / "program", loops, calls)
-    return [tools / "lib/ld-linux-x86-64.so.2", "--library-path", tools / "lib", folder / "program"]
+def compiled(root, folder):
+    """The program over the library of a checkout, made in a folder."""
+    crates, loops, program = folder / "crates", folder / "loops.c", folder / "program"
+    shutil.copytree(root / "crates", crates, ignore=shutil.ignore_patterns("out", "must-fail"))
+    for generated in (root / "crates").glob("*/proofs/out"):
+        shutil.copytree(generated, crates / generated.relative_to(root / "crates"))
+    (folder / "crates.txt").write_text((root / "crates.txt").read_text() + "\ncalls staticlib: bench writer\n")
+    (crates / "calls/src").mkdir(parents=True)
+    (crates / "calls/src/lib.rt").write_text(CALLS)
+    loops.write_text(LOOPS)
+    run(f"{root} is not proved and built; `rt check bench` there says why", "rt", "lib", where=crates / "calls")
+    run("the loops are not compiled and linked", "cc", "-O3", "-o", program, loops, crates / "calls/out/libcalls.a")
+    return [program]
 
 
 def measured(roots):
     """The runs of each checkout: the ns of each call in each."""
-    kit = the_kit()
+    if platform.machine() != MACHINE:
+        stop(f"programs are for {MACHINE}")
+    for word in ("rt", "cc"):
+        shutil.which(word) or stop(f"{word} is not on the PATH")
     with tempfile.TemporaryDirectory() as name:
         programs = []
         for i, root in enumerate(roots):
             folder = pathlib.Path(name) / str(i)
             folder.mkdir()
-            programs.append(compiled(kit, root, folder))
+            programs.append(compiled(root, folder))
         runs = [[run("the calls were not answered as they should be", *program).split() for program in programs] for _ in range(RUNS)]
     return zip(*runs)
 
