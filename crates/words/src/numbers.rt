@@ -53,6 +53,9 @@ pub fn digit(b: u8) -> u8
     16
 }
 
+// The largest number of four bytes.
+const LARGEST: u64 = 4294967295;
+
 fn number_in(radix: u64, w: &[u8]) -> NumberRead
     requires { radix ≤ 16 }
     ensures { result ≡ number_in radix w.now }
@@ -68,7 +71,7 @@ fn number_in(radix: u64, w: &[u8]) -> NumberRead
             return NumberRead::Not;
         }
         value = value * radix + d;
-        if 4294967295 < value {
+        if LARGEST < value {
             return NumberRead::Not;
         }
         i += 1;

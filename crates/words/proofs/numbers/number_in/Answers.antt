@@ -11,8 +11,8 @@ loop-i-init c = search (some_word, rules)
 pub returns-then-radix-d : goal.returns-then-radix-d
 returns-then-radix-d c = search (no_digit, rules)
 
-pub returns-then-value-gt4294967295 : goal.returns-then-value-gt4294967295
-returns-then-value-gt4294967295 c = search (past_top, rules)
+pub returns-then-value-gt-LARGEST : goal.returns-then-value-gt-LARGEST
+returns-then-value-gt-LARGEST c = search (past_top, rules)
 
 pub loop-i-preserved : goal.loop-i-preserved
 loop-i-preserved c = search (next_value, rules)
