@@ -166,9 +166,11 @@ def run(why, *words, where=None):
 def compiled(root, folder):
     """The program over the library of a checkout, made in a folder."""
     crates, loops, program = folder / "crates", folder / "loops.c", folder / "program"
-    shutil.copytree(root / "crates", crates, ignore=shutil.ignore_patterns("out", "must-fail"))
-    for generated in (root / "crates").glob("*/proofs/out"):
-        shutil.copytree(generated, crates / generated.relative_to(root / "crates"))
+
+    def left_out(within, names):  # of a crate what rt makes, and its edits; a module may be called out too
+        return {"out", "must-fail"} & set(names) if pathlib.Path(within).parent == root / "crates" else set()
+
+    shutil.copytree(root / "crates", crates, ignore=left_out)
     (folder / "crates.txt").write_text((root / "crates.txt").read_text() + "\ncalls staticlib: bench writer\n")
     (crates / "calls/src").mkdir(parents=True)
     (crates / "calls/src/lib.rt").write_text(CALLS)

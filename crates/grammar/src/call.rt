@@ -57,7 +57,7 @@ pub enum Call {
     Wrong,
 }
 
-// A set-up whose lesson seats are bits, seat 1 the lowest: an enum that holds an array is not covered.
+// A set-up whose lesson seats are bits, seat 1 the lowest.
 #[derive(Clone, Copy)]
 pub struct SetupSaid {
     pub lessons: u8,

@@ -84,8 +84,7 @@ seat_of seats n = entry_of closed_seat seats n
 unfoldable pub lesson : Setup → ℕ → Bool
 lesson setup n = entry_of false setup.lesson n
 
--- The bench with one thing changed. (A record is written out whole here and in fresh_bench alone: antt has no shorter way to
--- say "the same but for".)
+-- The bench with one thing changed. (A record is written out whole here and in fresh_bench alone.)
 abbrev pub with_seats : Bench → List Seat → Bench
 with_seats b seats =
     record {
