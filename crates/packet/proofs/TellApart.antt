@@ -3,11 +3,10 @@ use Prim.Native.Nat.{ℕ}
 use mathlib.Core.Path.{◌≡◌, refl, ap, sym, ◌∙◌}
 use mathlib.Core.Bool.{cond}
 use lib.Dec.{eqb}
-use Rattle.packet.specs.Refusals.{number_of, cause_of, accepted, refusal, verdict_of}
+use Rattle.packet.specs.Refusals.{number_of, cause_of, accepted, refusal, answer_of}
 use Rattle.packet.specs.declared.refusal.Refusal.{Refusal}
 use Rattle.packet.specs.declared.refusal.Refusal.TheVariants.{TooShort, WrongVersion, PaddingOrMarker, NoExtension, PayloadType, ExtensionCut, ExtensionType, WordCount, WordsCut, FieldRule, ItemRule, PayloadLength, NoSuchSeat, SeatNotOpen, SeatOpenAlready, PeriodOrMultiplier, LessonCoupling, CouplingTaken, OtherSsrc, NotAfterLast, KeyingNotAllowed, OtherId, SideNotAllowed, ElapsedTooLong, ReportAudio, BufferTooShort, UnwritableValue, TotalTooLarge}
-use Rattle.packet.specs.declared.refusal.Verdict.{Verdict}
-use Rattle.packet.specs.declared.refusal.Verdict.TheVariants as verdict
+use Rattle.std.specs.Prelude.{Result, Ok, Err}
 use Rattle.packet.proofs.Judged.{never}
 
 -- the refusal of a number
@@ -82,8 +81,9 @@ refusal_tells r s e = number_tells r s (cc)
 pub not_refused : {A : Type 0} (a : A) (r : Refusal) → accepted a ≡ refusal r → ⊥
 not_refused a r e = never a (number_of r) (cause_of (number_of r)) e
 
-pub verdict_tells : (a b : Verdict) → verdict_of a ≡ verdict_of b → a ≡ b
-verdict_tells verdict.Fine verdict.Fine e = refl
-verdict_tells verdict.Fine (verdict.Refused r) e = absurd (not_refused tt r e)
-verdict_tells (verdict.Refused r) verdict.Fine e = absurd (not_refused tt r (sym e))
-verdict_tells (verdict.Refused r) (verdict.Refused s) e = ap verdict.Refused (refusal_tells r s e)
+-- so an answer of the code, as 01 writes it, leaves one
+pub answer_tells : {A : Type 0} (a b : Result A Refusal) → answer_of a ≡ answer_of b → a ≡ b
+answer_tells (Ok a) (Ok b) e = ap Ok (cc)
+answer_tells (Ok a) (Err r) e = absurd (not_refused a r e)
+answer_tells (Err r) (Ok b) e = absurd (not_refused b r (sym e))
+answer_tells (Err r) (Err s) e = ap Err (refusal_tells r s e)

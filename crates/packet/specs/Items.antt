@@ -1,14 +1,11 @@
 -- 01, The packet: "Items follow." What the bytes after the first two may hold, with the type 4 items of 02, request 1.
-use Rattle.std.specs.Prelude.{ℕ, zero, suc, Bool, true, false, cond, not, ◌&&◌, ◌||◌, List, [], ◌∷◌, leb, eqb, length, take}
+use Rattle.std.specs.Prelude.{ℕ, zero, suc, Bool, true, false, cond, not, ◌&&◌, ◌||◌, List, [], ◌∷◌, leb, eqb, length, take, Option, None, Some}
 use Rattle.base.specs.Bytes.{bits, byte_at}
 use Rattle.packet.specs.declared.message.Direction.{Direction}
 use Rattle.packet.specs.declared.message.Direction.TheVariants.{Tx, Rx}
-use Rattle.packet.specs.declared.message.SqiItem.{SqiItem}
-use Rattle.packet.specs.declared.message.SqiItem.TheVariants as sqi
-use Rattle.packet.specs.declared.message.ClimaxItem.{ClimaxItem}
-use Rattle.packet.specs.declared.message.ClimaxItem.TheVariants as climax
-use Rattle.packet.specs.declared.message.SideItem.{SideItem}
-use Rattle.packet.specs.declared.message.SideItem.TheVariants as side
+use Rattle.packet.specs.declared.message.Sqi.{Sqi}
+use Rattle.packet.specs.declared.message.Side.{Side}
+use Rattle.packet.specs.declared.message.Side.TheVariants.{Main, Standby}
 use Rattle.packet.specs.declared.message.Items.{Items}
 
 -- A type, and as many value bytes as the length beside it says.
@@ -96,8 +93,8 @@ climax_allowed value = eqb (bits 8 0 1 value) 1
 abbrev pub side_allowed : ℕ → Bool
 side_allowed value = eqb (bits 8 1 7 value) 0
 
-abbrev pub side_of : ℕ → SideItem
-side_of value = cond (eqb (bits 8 0 1 value) 1) side.Standby side.Main
+abbrev pub side_of : ℕ → Side
+side_of value = cond (eqb (bits 8 0 1 value) 1) Standby Main
 
 abbrev pub in_tx : Direction → Bool
 in_tx Tx = true
@@ -149,17 +146,18 @@ unfoldable pub items_of : (x : ℕ) → List ℕ → List Item
 items_of x bytes = cond (eqb x 0) [] (listed (items_in bytes))
 
 -- What a message keeps of them. Of type 4, 02: "its value isn't kept".
-unfoldable pub sqi_among : List Item → SqiItem
-sqi_among [] = sqi.Absent
-sqi_among (i ∷ is) = cond (eqb i.type sqi_type) (sqi.Is (sqi_quality (value_byte i)) (sqi_method (value_byte i))) (sqi_among is)
+unfoldable pub sqi_among : List Item → Option Sqi
+sqi_among [] = None
+sqi_among (i ∷ is) =
+    cond (eqb i.type sqi_type) (Some (record { quality = sqi_quality (value_byte i); method = sqi_method (value_byte i) })) (sqi_among is)
 
-unfoldable pub climax_among : List Item → ClimaxItem
-climax_among [] = climax.Absent
-climax_among (i ∷ is) = cond (eqb i.type climax_type) (climax.Is (climax_delay (value_byte i))) (climax_among is)
+unfoldable pub climax_among : List Item → Option ℕ
+climax_among [] = None
+climax_among (i ∷ is) = cond (eqb i.type climax_type) (Some (climax_delay (value_byte i))) (climax_among is)
 
-unfoldable pub side_among : List Item → SideItem
-side_among [] = side.Absent
-side_among (i ∷ is) = cond (eqb i.type side_type) (side_of (value_byte i)) (side_among is)
+unfoldable pub side_among : List Item → Option Side
+side_among [] = None
+side_among (i ∷ is) = cond (eqb i.type side_type) (Some (side_of (value_byte i))) (side_among is)
 
 unfoldable pub kept : List Item → Items
 kept is = record { sqi = sqi_among is; climax = climax_among is; side = side_among is }

@@ -2,6 +2,7 @@
 -- InWords: the sentences once more, without these definitions.
 pub mod Packet
 pub mod Items
+pub mod Messages
 pub mod Refusals
 pub mod Quality
 pub mod InWords

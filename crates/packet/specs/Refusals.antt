@@ -1,9 +1,7 @@
 -- 01, What is turned away: "Each refusal returns its number and cause (0 unless shown)."
-use Rattle.std.specs.Prelude.{ℕ, ◌≡◌, Bool, true, false, cond, ◌||◌, List, [], ◌∷◌, ◌⊎◌, eqb}
+use Rattle.std.specs.Prelude.{ℕ, ◌≡◌, Bool, true, false, cond, ◌||◌, List, [], ◌∷◌, ◌⊎◌, eqb, Result, Ok, Err}
 use Rattle.packet.specs.declared.refusal.Refusal.{Refusal}
 use Rattle.packet.specs.declared.refusal.Refusal.TheVariants.{TooShort, WrongVersion, PaddingOrMarker, NoExtension, PayloadType, ExtensionCut, ExtensionType, WordCount, WordsCut, FieldRule, ItemRule, PayloadLength, NoSuchSeat, SeatNotOpen, SeatOpenAlready, PeriodOrMultiplier, LessonCoupling, CouplingTaken, OtherSsrc, NotAfterLast, KeyingNotAllowed, OtherId, SideNotAllowed, ElapsedTooLong, ReportAudio, BufferTooShort, UnwritableValue, TotalTooLarge}
-use Rattle.packet.specs.declared.refusal.Verdict.{Verdict}
-use Rattle.packet.specs.declared.refusal.Verdict.TheVariants.{Fine, Refused}
 
 -- The number of each refusal in 01's table, and in 02.
 abbrev pub number_of : Refusal → ℕ
@@ -68,10 +66,10 @@ mapped f (refused n c) = refused n c
 abbrev pub refusal : {A : Type 0} → Refusal → Answer A
 refusal r = refused (number_of r) (cause_of (number_of r))
 
--- A verdict of the code, as 01 writes it.
-abbrev pub verdict_of : Verdict → Answer (Unit {0})
-verdict_of Fine = accepted tt
-verdict_of (Refused r) = refusal r
+-- An answer of the code, as 01 writes it.
+abbrev pub answer_of : {A : Type 0} → Result A Refusal → Answer A
+answer_of (Ok a) = accepted a
+answer_of (Err r) = refusal r
 
 -- n's case holds and no earlier case does
 abbrev pub FirstCase : ℕ → List Case → Type 0

@@ -2,11 +2,11 @@
 ghost use Rattle.std.specs.Prelude.{◌≡◌};
 ghost use Rattle.packet.specs.Quality.{floor_div, quality};
 
-// A twentieth, rounded down. Below zero the machine's own division would round up.
+// A twentieth, rounded down. Below zero `/` would round up.
 fn floor_twentieth(x: i16) -> i16
     ensures { result ≡ floor_div x 20 }
 {
-    if x >= 0 { x / 20 } else { (x + 1) / 20 - 1 }
+    x.div_euclid(20)
 }
 
 // Below this the quality is 0, above the other 15: in tenths of a dBm.

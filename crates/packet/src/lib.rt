@@ -10,6 +10,6 @@ pub mod refusal;
 pub mod rules;
 
 pub use level::quality;
-pub use message::{ClimaxItem, Direction, Items, Message, Rx, SideItem, SqiItem, Tx};
-pub use refusal::{Refusal, Verdict, cause, number};
+pub use message::{Direction, Items, Message, Rx, Side, Sqi, Tx};
+pub use refusal::{Refusal, cause, number};
 pub use rules::{audio_length, ptt_on, sqi_allowed};

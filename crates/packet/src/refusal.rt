@@ -1,95 +1,53 @@
-// What is turned away: every refusal of document 01, in the order of its table, then those of 02.
+// What is turned away: every refusal of document 01 with its number in 01's table, then those of 02.
 ghost use Rattle.std.specs.Prelude.{◌≡◌};
 ghost use Rattle.packet.specs.Refusals.{number_of, cause_of};
 
-#[derive(Clone, Copy)]
+#[derive(Clone, Copy, Debug, PartialEq, Eq)]
 pub enum Refusal {
-    TooShort,
-    WrongVersion,
-    PaddingOrMarker,
-    NoExtension,
-    PayloadType,
-    ExtensionCut,
-    ExtensionType,
-    WordCount,
-    WordsCut,
-    FieldRule,
-    ItemRule,
-    PayloadLength,
-    NoSuchSeat,
-    SeatNotOpen,
-    SeatOpenAlready,
-    PeriodOrMultiplier,
-    LessonCoupling,
-    CouplingTaken,
-    OtherSsrc,
-    NotAfterLast,
-    KeyingNotAllowed,
-    OtherId,
-    SideNotAllowed,
-    ElapsedTooLong,
-    ReportAudio,
-    BufferTooShort,
-    UnwritableValue,
-    TotalTooLarge,
-}
-
-// What a run of tests found: nothing to turn away, or the first refusal.
-#[derive(Clone, Copy)]
-pub enum Verdict {
-    Fine,
-    Refused(Refusal),
+    TooShort = 1,
+    WrongVersion = 2,
+    PaddingOrMarker = 3,
+    NoExtension = 4,
+    PayloadType = 5,
+    ExtensionCut = 6,
+    ExtensionType = 7,
+    WordCount = 8,
+    WordsCut = 9,
+    FieldRule = 10,
+    ItemRule = 11,
+    PayloadLength = 12,
+    NoSuchSeat = 13,
+    SeatNotOpen = 14,
+    SeatOpenAlready = 15,
+    PeriodOrMultiplier = 16,
+    LessonCoupling = 17,
+    CouplingTaken = 18,
+    OtherSsrc = 19,
+    NotAfterLast = 20,
+    KeyingNotAllowed = 21,
+    OtherId = 22,
+    SideNotAllowed = 23,
+    ElapsedTooLong = 24,
+    ReportAudio = 25,
+    BufferTooShort = 26,
+    UnwritableValue = 27,
+    TotalTooLarge = 33,
 }
 
 // Its number in 01's table, or in 02.
 pub fn number(r: Refusal) -> u8
     ensures { result ≡ number_of r }
 {
-    match r {
-        Refusal::TooShort => 1,
-        Refusal::WrongVersion => 2,
-        Refusal::PaddingOrMarker => 3,
-        Refusal::NoExtension => 4,
-        Refusal::PayloadType => 5,
-        Refusal::ExtensionCut => 6,
-        Refusal::ExtensionType => 7,
-        Refusal::WordCount => 8,
-        Refusal::WordsCut => 9,
-        Refusal::FieldRule => 10,
-        Refusal::ItemRule => 11,
-        Refusal::PayloadLength => 12,
-        Refusal::NoSuchSeat => 13,
-        Refusal::SeatNotOpen => 14,
-        Refusal::SeatOpenAlready => 15,
-        Refusal::PeriodOrMultiplier => 16,
-        Refusal::LessonCoupling => 17,
-        Refusal::CouplingTaken => 18,
-        Refusal::OtherSsrc => 19,
-        Refusal::NotAfterLast => 20,
-        Refusal::KeyingNotAllowed => 21,
-        Refusal::OtherId => 22,
-        Refusal::SideNotAllowed => 23,
-        Refusal::ElapsedTooLong => 24,
-        Refusal::ReportAudio => 25,
-        Refusal::BufferTooShort => 26,
-        Refusal::UnwritableValue => 27,
-        Refusal::TotalTooLarge => 33,
-    }
+    r as u8
 }
 
 // The cause that a switch is told, 0 unless 01 shows one.
 pub fn cause(r: Refusal) -> u16
     ensures { result ≡ cause_of (number_of r) }
 {
-    let n = number(r);
-    if n == 10 {
-        return 2012;
+    match r {
+        Refusal::FieldRule | Refusal::ItemRule => 2012,
+        Refusal::CouplingTaken => 2005,
+        _ => 0,
     }
-    if n == 11 {
-        return 2012;
-    }
-    if n == 18 {
-        return 2005;
-    }
-    0
 }
