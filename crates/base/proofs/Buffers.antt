@@ -1,4 +1,4 @@
--- Bytes laid over the front of a buffer: how a copy does it, that one prefix and then another behind it are both, and
+-- Bytes laid over the front of a buffer: that one prefix and then another behind it are both, and
 -- what is there where there is room. Bytes stored from a place on, one behind the other.
 use Prim.Native.Nat.{ℕ, suc, ◌+◌, ◌-◌, ◌≤◌, ◌<◌, min}
 use mathlib.Core.Path.{◌≡◌, refl, ap, sym, ◌∙◌}
@@ -10,7 +10,7 @@ use borrow.Author.Tests.{leb-true, leb-false}
 use borrow.Rule.Slice.PartMut.{put_mid}
 use lib.Dec.{leb}
 use lib.ListN.{length, set, take, drop, length-append, length-take, length-drop, drop_of_length-le}
-use lib.Seq.{sets, take_all, drop-nil, take-length, take-append-le, take-append-add, take_at, drop_at, drop-drop}
+use lib.Seq.{sets, take_all, drop-nil, take-append-le, take-append-add, take_at, drop_at, drop-drop}
 use Rattle.base.specs.Bytes.{overlaid}
 use Rattle.base.proofs.Parts.{part_to_end}
 
@@ -32,23 +32,6 @@ module _ (P l : List ℕ) where
   pub overlaid_full : length l ≤ length P → overlaid P l ≡ take (length l) P
   unfolding overlaid
   overlaid_full h = rw (drop_of_length-le l) (append-nil (take (length l) P))
-
-  by_room : (b : Bool) → leb (length P) (length l) ≡ b → (F : List ℕ) → F ≡ take (min (length P) (length l)) P
-      → take (length F) F ++ drop (length F) l ≡ overlaid P l
-  by_room true p F e =
-      let room : length P ≤ length l = leb-true (length P) (length l) p in
-      let whole : F ≡ P = e ∙ take_all (min (length P) (length l)) P (omega arith) in
-      rw (whole, take-length P) (sym (overlaid_fits room))
-  by_room false p F e =
-      let short : length l < length P = leb-false (length P) (length l) p in
-      let least : min (length P) (length l) ≡ length l = omega arith in
-      let cut : F ≡ take (length l) P = e ∙ ap (λ (n : ℕ). take n P) least in
-      let full : length F ≡ length l = ap length cut ∙ simp length-take (omega arith) in
-      rw (take-length F, drop_of_length-le l {i = length F} (omega arith)) (append-nil F ∙ cut ∙ sym (overlaid_full (omega arith)))
-
-  -- the part that fits, copied whole
-  pub copied : (F : List ℕ) → F ≡ take (min (length P) (length l)) P → take (length F) F ++ drop (length F) l ≡ overlaid P l
-  copied = by_room (leb (length P) (length l)) refl
 
 module _ (P Q l : List ℕ) where
   both_fit : length P ≤ length l → P ++ overlaid Q (drop (length P) l) ≡ overlaid (P ++ Q) l

@@ -5,8 +5,11 @@ use mathlib.Core.Bool.{Bool, true, false, cond}
 use native.Mathlib.Omega.{arith}
 use borrow.Author.Tests.{lt-ltb, le-ltb, ltb-true, ltb-false, leb-false}
 use lib.Dec.{ltb, leb→le, le→leb}
-use lib.IntN.{ℤ, pos, negsuc, sub_ℕ, nat_abs, neg_ℤ, ◌+ℤ◌, ◌-ℤ◌}
-use lib.Signed.{mag, lt_z, le_z, ◌≤ℤ◌}
+use lib.IntN.{ℤ, pos, negsuc, sub_ℕ, neg_ℤ, ◌+ℤ◌, ◌-ℤ◌}
+use lib.Signed.{mag, le_z, ◌≤ℤ◌}
+use mir.Syntax.{w16}
+use mir.Val.{to_z}
+use Rattle.std.proofs.lemmas.Int.{ints}
 use Rattle.base.specs.Order.{wrapped, centred, distance, size}
 use Rattle.base.proofs.Signed.{by_difference}
 
@@ -15,8 +18,9 @@ pub wrapped_below : (z : ℤ) → wrapped z < 65536
 wrapped_below (pos n) = omega arith
 wrapped_below (negsuc n) = omega arith
 
-pub gap_is : (last new : ℕ) → last < 65536 → new < 65536 → (new + 65536 - last) % 65536 ≡ wrapped (sub_ℕ new last)
-gap_is last new h k = by_difference (λ (z : ℤ). (new + 65536 - last) % 65536 ≡ wrapped z) new last (λ l. omega arith) (λ l. omega arith)
+forward : (last new : ℕ) → last < 65536 → new < 65536 → (new + (65536 - last)) % 65536 ≡ wrapped (sub_ℕ new last)
+forward last new h k =
+    by_difference (λ (z : ℤ). (new + (65536 - last)) % 65536 ≡ wrapped z) new last (λ l. omega arith) (λ l. omega arith)
 
 -- brought into the middle
 module _ (n : ℕ) where
@@ -41,14 +45,15 @@ pub distance_near : (last new : ℕ) → mag (distance last new) < 32768
 unfolding distance
 distance_near last new = centred_near (wrapped (sub_ℕ new last)) (wrapped_below (sub_ℕ new last))
 
--- a size is what a cast of a number above zero gives
-pub size_some : (z : ℤ) → lt_z (pos 0) z ≡ true → nat_abs z ≡ size z
-size_some (pos n) e = refl
-size_some (negsuc n) e = cc
+-- the code reads the way forward, a number of 16 bits, with its sign
+signed : (n : ℕ) → n < 65536 → to_z w16 n ≡ centred n
+unfolding centred
+signed n h = grind (arith, ints)
 
-pub size_none : (z : ℤ) → lt_z (pos 0) z ≡ false → 0 ≡ size z
-size_none (pos n) e = omega (arith, ltb-false 0 n e)
-size_none (negsuc n) e = refl
+pub distance_is : (last new : ℕ) → last < 65536 → new < 65536 → to_z w16 ((new + (65536 - last)) % 65536) ≡ distance last new
+unfolding distance
+distance_is last new h k =
+    ap (to_z w16) (forward last new h k) ∙ signed (wrapped (sub_ℕ new last)) (wrapped_below (sub_ℕ new last))
 
 -- the distance minus 1
 pub size_near : (z : ℤ) → mag z < 32768 → size (z -ℤ pos 1) ≤ 32766

@@ -14,21 +14,21 @@ pub use order::{distance, late, missing, other_ssrc, size};
 pub fn byte_at(s: &[u8], i: usize) -> u8
     ensures { result ≡ byte_at s.now i }
 {
-    if i < s.len() { s[i] } else { 0 }
+    s.get(i).copied().unwrap_or(0)
 }
 
 // The number of two bytes, most significant first.
 pub fn join8(high: u8, low: u8) -> u16
     ensures { result ≡ high * 256 + low }
 {
-    (high as u16) * 256 + (low as u16)
+    u16::from_be_bytes([high, low])
 }
 
 // The number of two numbers of two bytes, most significant first.
 pub fn join16(high: u16, low: u16) -> u32
     ensures { result ≡ high * 65536 + low }
 {
-    (high as u32) * 65536 + (low as u32)
+    u32::from(high) << 16 | u32::from(low)
 }
 
 // The number of two bytes at a place; bytes past the end count as 0.
@@ -36,32 +36,34 @@ pub fn number16_at(s: &[u8], i: u32) -> u16
     ensures { result ≡ number16 s.now i }
 {
     let at = i as usize;
-    join8(byte_at(s, at), byte_at(s, at + 1))
+    u16::from_be_bytes([byte_at(s, at), byte_at(s, at + 1)])
 }
 
 // The number of four bytes at a place; bytes past the end count as 0.
 pub fn number32_at(s: &[u8], i: u32) -> u32
     ensures { result ≡ number32 s.now i }
 {
-    let first = i as usize;
-    let second = first + 2;
-    let high = join8(byte_at(s, first), byte_at(s, first + 1));
-    let low = join8(byte_at(s, second), byte_at(s, second + 1));
-    join16(high, low)
+    let at = i as usize;
+    u32::from_be_bytes([
+        byte_at(s, at),
+        byte_at(s, at + 1),
+        byte_at(s, at + 2),
+        byte_at(s, at + 3),
+    ])
 }
 
 // The smaller of two numbers.
 pub fn least(a: usize, b: usize) -> usize
     ensures { result ≡ min a b }
 {
-    if a < b { a } else { b }
+    a.min(b)
 }
 
 // A truth as a bit.
 pub fn bit(b: bool) -> u8
     ensures { result ≡ bit b }
 {
-    if b { 1 } else { 0 }
+    b as u8
 }
 
 // The part from one place up to another; what lies past the end is left out.
@@ -69,18 +71,17 @@ pub fn part(s: &[u8], from: usize, to: usize) -> &[u8]
     ensures holds { result.now ≡ part_of from to s.now }
     ensures lies { LiesAt s.entry (min from (min to (length s.now))) result }
 {
-    let end = least(to, s.len());
-    let start = least(from, end);
-    &s[start..end]
+    let end = to.min(s.len());
+    &s[from.min(end)..end]
 }
 
 // Lays bytes over the front of a buffer, as many as there is room for, and answers how many.
+#[tactic(auto, unfolding(crate::specs::Bytes::overlaid))]
 pub fn copy_in(out: &mut [u8], from: &[u8]) -> usize
     ensures value { result ≡ min (length from.now) (length out.old) }
     ensures out_after { out.new ≡ overlaid from.now out.old }
 {
-    let n = least(from.len(), out.len());
-    let front = &mut out[0..n];
-    front.copy_from_slice(&from[0..n]);
+    let n = from.len().min(out.len());
+    out[..n].copy_from_slice(&from[..n]);
     n
 }
