@@ -12,6 +12,5 @@ pub fn put_length(n: u16, out: &mut [u8]) -> usize
     ensures value { result ≡ min 2 (length out.old) }
     ensures out_after { out.new ≡ overlaid (bytes16 n) out.old }
 {
-    let bytes = [(n / 256 % 256) as u8, (n % 256) as u8];
-    copy_in(out, &bytes)
+    copy_in(out, &n.to_be_bytes())
 }
