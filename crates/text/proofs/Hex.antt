@@ -1,13 +1,11 @@
--- The bytes of a slice written in hexadecimal, one after the other; and `-` for none.
-use Prim.Native.Nat.{ℕ, ◌+◌, ◌≤◌, ◌<◌, min}
+-- The bytes of a slice written in hexadecimal, one after the other.
+use Prim.Native.Nat.{ℕ, ◌+◌, ◌<◌, min}
 use mathlib.Core.Path.{◌≡◌, refl, ap}
 use mathlib.Core.List.{List, [], ◌∷◌, ◌++◌}
 use native.Mathlib.Numerals.{add-one}
-use native.Mathlib.Omega.{arith}
 use lib.ListN.{length, get_or, take}
-use lib.Seq.{take-suc, take_all}
-use Rattle.base.specs.Text.{text}
-use Rattle.text.specs.Text.{Written, hex_byte, hex, bytes_text}
+use lib.Seq.{take-suc}
+use Rattle.text.specs.Text.{Written, hex_byte, hex}
 use Rattle.text.proofs.Writing.{◌then◌, nothing}
 
 hex_append : (a b : List ℕ) → hex (a ++ b) ≡ hex a ++ hex b
@@ -23,14 +21,3 @@ pub hex_then_next : {l m n : List ℕ} {from mid to : ℕ} (t : List ℕ) (i : �
     → Written l m from mid (hex (take i t)) → Written m n mid to (hex_byte (get_or t i 0)) → Written l n from to (hex (take (i + 1) t))
 unfolding hex
 hex_then_next t i h p q = rw (add-one, take-suc t i 0 h, hex_append) (p then q)
-
-pub hex_whole : {l m : List ℕ} {from to : ℕ} (t : List ℕ) (i : ℕ) → length t ≤ i → Written l m from to (hex (take i t)) → Written l m from to (hex t)
-hex_whole t i h p = rw (take_all i t h) at p
-
-pub no_byte : (t : List ℕ) → length t ≡ 0 → text "-" ≡ bytes_text t
-no_byte [] h = refl
-no_byte (b ∷ t) h = absurd (omega arith)
-
-pub some_byte : (t : List ℕ) → (length t ≡ 0 → ⊥) → hex t ≡ bytes_text t
-some_byte [] h = absurd (h refl)
-some_byte (b ∷ t) h = refl

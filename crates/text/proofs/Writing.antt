@@ -1,16 +1,19 @@
--- How texts written one behind the other join: `_then_`.
-use Prim.Native.Nat.{ℕ, suc, ◌+◌, ◌≤◌, ◌<◌, min}
+-- A text laid over the part of a buffer that begins at a place (`laid`), and how texts written one behind the other
+-- join: `_then_`.
+use Prim.Native.Nat.{ℕ, zero, suc, ◌+◌, ◌-◌, ◌≤◌, min}
 use mathlib.Core.Path.{◌≡◌, refl, ap, sym, ◌∙◌}
 use mathlib.Core.Bool.{Bool, true, false}
-use mathlib.Core.List.{List, [], ◌∷◌, ◌++◌}
+use mathlib.Core.List.{List, [], ◌∷◌, ◌++◌, append-nil}
 use native.Mathlib.Omega.{arith}
 use native.Mathlib.Nat.{add-zero}
-use native.Mathlib.Numerals.{add-one}
 use borrow.Author.Tests.{leb-true, leb-false}
+use borrow.Rule.Slice.PartMut.{put_mid}
 use lib.Dec.{leb}
-use lib.ListN.{length, set, get_or, take, length-append}
-use lib.Seq.{sets, set_out, length-sets, take-suc, take_all}
-use Rattle.base.proofs.Buffers.{sets_append}
+use lib.ListN.{length, set, take, drop, length-append, length-take, length-drop, drop_of_length-le}
+use lib.Seq.{sets, set_out, length-sets}
+use Rattle.base.specs.Bytes.{overlaid}
+use Rattle.base.proofs.Parts.{part_to_end}
+use Rattle.base.proofs.Buffers.{overlaid_none, sets_append}
 use Rattle.text.specs.Text.{Written}
 
 sets_out : (l b : List ℕ) (i : ℕ) → length l ≤ i → sets l i b ≡ l
@@ -30,12 +33,34 @@ sets_clipped l b i = by (leb i (length l)) refl
 pub nothing : (l : List ℕ) (from : ℕ) → Written l l from (min from (length l)) []
 nothing l from = record { buffer = refl; place = rw add-zero }
 
-module _ (l : List ℕ) (from b : ℕ) where
-  pub byte_fits : from < length l → Written l (set l from b) from (from + 1) (b ∷ [])
-  byte_fits h = record { buffer = refl; place = omega arith }
+-- bytes stored from a place on lie over what is there
+sets_behind : (x : ℕ) (l t : List ℕ) (i : ℕ) → sets (x ∷ l) (suc i) t ≡ x ∷ sets l i t
+sets_behind x l [] i = refl
+sets_behind x l (b ∷ t) i = sets_behind x (set l i b) t (suc i)
 
-  pub byte_dropped : length l ≤ from → Written l l from (length l) (b ∷ [])
-  byte_dropped h = record { buffer = sym (set_out l from b h); place = omega arith }
+sets_over : (l t : List ℕ) → sets l 0 t ≡ overlaid t l
+unfolding overlaid
+sets_over l [] = sym (overlaid_none l)
+sets_over [] (b ∷ t) = sets_out [] (b ∷ t) 0 (omega arith)
+sets_over (x ∷ l) (b ∷ t) = sets_behind b l t 0 ∙ ap (λ (m : List ℕ). b ∷ m) (sets_over l t)
+
+sets_from : (l t : List ℕ) (i : ℕ) → i ≤ length l → take i l ++ overlaid t (drop i l) ≡ sets l i t
+sets_from l t zero h = sym (sets_over l t)
+sets_from [] t (suc i) h = absurd (omega arith)
+sets_from (x ∷ l) t (suc i) h = ap (λ (m : List ℕ). x ∷ m) (sets_from l t i (omega arith)) ∙ sym (sets_behind x l t i)
+
+-- a text laid over the part of the buffer that begins at a place
+pub laid : {l t v : List ℕ} {from k n : ℕ} → k ≡ min from (length l) → n ≡ min (length t) (length (take (length l - k) (drop k l)))
+    → v ≡ overlaid t (take (length l - k) (drop k l)) → Written l (put_mid k (length l - k) l v) from (k + n) t
+laid {l} {t} {v} {from} {k} {n} e d f =
+    let none : length (drop k l) ≤ length l - k = simp length-drop (omega arith) in
+    let room : length (take (length l - k) (drop k l)) ≡ length l - k = simp (length-take, length-drop) (omega arith) in
+    record {
+      buffer =
+          rw (drop_of_length-le (drop k l) none, append-nil, f, part_to_end)
+          (sets_from l t k (omega arith) ∙ ap (λ (i : ℕ). sets l i t) e ∙ sets_clipped l t from);
+      place = omega (arith, room);
+    }
 
 infixl 45 ◌then◌
 pub ◌then◌ : {l m n : List ℕ} {from mid to : ℕ} {a b : List ℕ} → Written l m from mid a → Written m n mid to b → Written l n from to (a ++ b)
@@ -52,17 +77,3 @@ pub ◌then◌ : {l m n : List ℕ} {from mid to : ℕ} {a b : List ℕ} → Wri
 -- the promise leaves one content of the buffer and one place
 pub written_once : {l m n : List ℕ} {from r s : ℕ} {t : List ℕ} → Written l m from r t → Written l n from s t → (m ≡ n) × (r ≡ s)
 written_once p q = (p.buffer ∙ sym q.buffer, p.place ∙ sym q.place)
-
-pub kept : {l m : List ℕ} {from to : ℕ} {t : List ℕ} → Written l m from to t → length m ≡ length l
-kept {l} {m} {from} {to} {t} p = ap length p.buffer ∙ length-sets l from t
-
--- Byte by byte: nothing yet, the next byte, and all of them.
-pub begun : {l : List ℕ} {from to : ℕ} (t : List ℕ) → to ≡ min from (length l) → Written l l from to (take 0 t)
-begun {l} {from} t e = rw e (nothing l from)
-
-module _ {l m n : List ℕ} {from mid to : ℕ} (t : List ℕ) (i : ℕ) where
-  pub then_next : i < length t → Written l m from mid (take i t) → Written m n mid to (get_or t i 0 ∷ []) → Written l n from to (take (i + 1) t)
-  then_next h p q = rw (add-one, take-suc t i 0 h) (p then q)
-
-pub whole : {l m : List ℕ} {from to : ℕ} (t : List ℕ) (i : ℕ) → length t ≤ i → Written l m from to (take i t) → Written l m from to t
-whole t i h p = rw (take_all i t h) at p

@@ -3,39 +3,26 @@
 ghost use Rattle.std.specs.Prelude.{◌≡◌, [], ◌∷◌, ◌<◌};
 ghost use Rattle.text.specs.Text.{Written, decimal, bit_text, hex_digit, hex_byte, hex, bytes_text};
 
-use base::least;
+use base::copy_in;
+
+#[tactic(auto, using(crate::proofs::Writing::laid))]
+pub fn put(out: &mut [u8], at: usize, text: &[u8]) -> usize
+    ensures { Written out.old out.new at result text.now }
+{
+    let from = at.min(out.len());
+    from + copy_in(&mut out[from..], text)
+}
 
 pub fn put_byte(out: &mut [u8], at: usize, b: u8) -> usize
     ensures { Written out.old out.new at result (b ∷ []) }
 {
-    if at < out.len() {
-        out[at] = b;
-        at + 1
-    } else {
-        out.len()
-    }
-}
-
-pub fn put(out: &mut [u8], at: usize, text: &[u8]) -> usize
-    ensures { Written out.old out.new at result text.now }
-{
-    let mut next = least(at, out.len());
-    let mut i = 0;
-    while i < text.len() {
-        next = put_byte(out, next, text[i]);
-        i += 1;
-    }
-    next
+    put(out, at, &[b])
 }
 
 pub fn put_bit(out: &mut [u8], at: usize, b: bool) -> usize
     ensures { Written out.old out.new at result (bit_text b) }
 {
-    if b {
-        put_byte(out, at, b'1')
-    } else {
-        put_byte(out, at, b'0')
-    }
+    put_byte(out, at, b'0' + b as u8)
 }
 
 // In decimal.
@@ -61,19 +48,16 @@ fn hex_digit(d: u8) -> u8
 fn put_hex_byte(out: &mut [u8], at: usize, b: u8) -> usize
     ensures { Written out.old out.new at result (hex_byte b) }
 {
-    let next = put_byte(out, at, hex_digit(b / 16));
-    put_byte(out, next, hex_digit(b % 16))
+    put(out, at, &[hex_digit(b / 16), hex_digit(b % 16)])
 }
 
 // In hexadecimal, two digits a byte.
 pub fn put_hex(out: &mut [u8], at: usize, bytes: &[u8]) -> usize
     ensures { Written out.old out.new at result (hex bytes.now) }
 {
-    let mut next = least(at, out.len());
-    let mut i = 0;
-    while i < bytes.len() {
-        next = put_hex_byte(out, next, bytes[i]);
-        i += 1;
+    let mut next = at.min(out.len());
+    for b in bytes {
+        next = put_hex_byte(out, next, *b);
     }
     next
 }
@@ -82,7 +66,7 @@ pub fn put_hex(out: &mut [u8], at: usize, bytes: &[u8]) -> usize
 pub fn put_bytes(out: &mut [u8], at: usize, bytes: &[u8]) -> usize
     ensures { Written out.old out.new at result (bytes_text bytes.now) }
 {
-    if bytes.len() == 0 {
+    if bytes.is_empty() {
         put_byte(out, at, b'-')
     } else {
         put_hex(out, at, bytes)
