@@ -4,6 +4,7 @@ use mathlib.Core.Path.{◌≡◌, refl, ap, sym, ◌∙◌, subst}
 use mathlib.Core.Bool.{Bool, true, false, cond}
 use mathlib.Core.List.{List, [], ◌∷◌}
 use lib.Dec.{eqb}
+use Rattle.std.specs.Prelude.{None, Some}
 use lib.ListN.{take}
 use Rattle.base.proofs.Truths.{push, either_way}
 use borrow.Author.Tests.{eqb-true}
@@ -12,7 +13,6 @@ use Rattle.items.specs.Scan.{scan_at, take_item, begun, met, scan_of, no_items, 
 use Rattle.items.specs.ItemsIn.{items_read}
 use Rattle.packet.specs.declared.message.Direction.{Direction}
 use Rattle.items.specs.declared.scan.Mode.TheVariants.{Tail, First, Value}
-use Rattle.items.specs.declared.scan.ItemsRead.TheVariants as read
 use Rattle.items.proofs.OneByOne.{led, broken_stays, tail_is, item, outcome, scan_finds}
 use Rattle.items.proofs.Taken.{run_is}
 
@@ -29,7 +29,7 @@ starts : (b : ℕ) (bs : List ℕ) → eqb b 0 ≡ false → starts_well (items_
 unfolding items_behind
 starts b bs e = simp e (starts_behind (item (item_type b) (take (item_length b) bs)) (items_behind (item_length b) bs))
 
-outcome_is : (d : Direction) (f : Found) → starts_well f ≡ true → outcome d false no_items f ≡ cond (run_allowed d f) (read.Items (kept (listed f))) read.Broken
+outcome_is : (d : Direction) (f : Found) → starts_well f ≡ true → outcome d false no_items f ≡ cond (run_allowed d f) (Some (kept (listed f))) None
 unfolding run_allowed
 outcome_is d (found is) e = run_is d is ∙ simp e
 outcome_is d broken e = refl
@@ -39,22 +39,22 @@ unfolding items_behind run_allowed
 zero_run d bs = push (run_allowed d) (all_zero bs) (found []) broken ∙ either_way (all_zero bs) false
 
 first_is : (d : Direction) (bs : List ℕ)
-    → led d (scan_at First false no_items) bs ≡ cond (run_allowed d (items_in bs)) (read.Items (kept (listed (items_in bs)))) read.Broken
+    → led d (scan_at First false no_items) bs ≡ cond (run_allowed d (items_in bs)) (Some (kept (listed (items_in bs)))) None
 unfolding items_behind run_allowed take_item
 first_is d [] = refl
 first_is d (b ∷ bs) = by_zero (eqb b 0) refl
   where
-    zero_breaks : (vs : List ℕ) → led d (scan_at (Value 0) false no_items) vs ≡ read.Broken
+    zero_breaks : (vs : List ℕ) → led d (scan_at (Value 0) false no_items) vs ≡ None
     zero_breaks [] = refl
     zero_breaks (v ∷ rest) = broken_stays d false no_items rest
 
     by_zero : (t : Bool) → eqb b 0 ≡ t
-        → led d (scan_at (begun false b) (met false b) no_items) bs ≡ cond (run_allowed d (items_in (b ∷ bs))) (read.Items (kept (listed (items_in (b ∷ bs))))) read.Broken
+        → led d (scan_at (begun false b) (met false b) no_items) bs ≡ cond (run_allowed d (items_in (b ∷ bs))) (Some (kept (listed (items_in (b ∷ bs))))) None
     by_zero true e =
         subst (λ (c : ℕ). led d (scan_at (begun false c) (met false c) no_items) bs
-        ≡ cond (run_allowed d (items_in (c ∷ bs))) (read.Items (kept (listed (items_in (c ∷ bs))))) read.Broken)
+        ≡ cond (run_allowed d (items_in (c ∷ bs))) (Some (kept (listed (items_in (c ∷ bs))))) None)
         (sym (eqb-true b 0 e))
-        (zero_breaks bs ∙ ap (λ (t : Bool). cond t (read.Items (kept (listed (items_in (0 ∷ bs))))) read.Broken) (sym (zero_run d bs)))
+        (zero_breaks bs ∙ ap (λ (t : Bool). cond t (Some (kept (listed (items_in (0 ∷ bs))))) None) (sym (zero_run d bs)))
     by_zero false e =
         ap (λ (t : Bool). led d (scan_at (cond t Tail (begun false b)) (met false b) no_items) bs) (sym e)
         ∙ scan_finds d (b ∷ bs) 0 false no_items
@@ -66,6 +66,6 @@ unfolding scan_of items_read items_allowed items_of kept sqi_among climax_among 
 scan_is d x bytes = by_x (eqb x 0)
   where
     by_x : (t : Bool) → led d (scan_at (cond t Tail First) false no_items) bytes
-        ≡ cond (cond t (all_zero bytes) (run_allowed d (items_in bytes))) (read.Items (kept (cond t [] (listed (items_in bytes))))) read.Broken
+        ≡ cond (cond t (all_zero bytes) (run_allowed d (items_in bytes))) (Some (kept (cond t [] (listed (items_in bytes))))) None
     by_x true = tail_is d false no_items bytes
     by_x false = first_is d bytes

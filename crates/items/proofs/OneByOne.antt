@@ -2,44 +2,38 @@
 use Prim.Native.Nat.{ℕ, zero, suc}
 use mathlib.Core.Path.{◌≡◌, refl, ap, sym, ◌∙◌, subst}
 use mathlib.Core.Bool.{Bool, true, false, cond, not, ◌&&◌, ◌||◌}
-use mathlib.Core.List.{List, [], ◌∷◌, foldl}
+use mathlib.Core.List.{List, [], ◌∷◌}
 use lib.Dec.{eqb}
 use lib.ListN.{take}
 use Rattle.base.proofs.Truths.{push, either_way, and_none}
 use borrow.Author.Tests.{eqb-true}
+use Rattle.std.specs.List.{fold}
+use Rattle.std.specs.Prelude.{Option, None, Some, is_some}
 use Rattle.packet.specs.Items.{Item, Found, found, broken, behind, all_zero, item_type, item_length, items_behind, sqi_quality, sqi_method, sqi_allowed, climax_allowed, side_allowed, one_byte, value_byte, in_tx, in_rx, item_allowed}
 use Rattle.packet.proofs.ItemLaws.{value_whole}
 use Rattle.items.specs.Scan.{sqi_free, climax_free, side_free, scan_at, with_sqi, with_climax, with_side, take_sqi, take_climax, take_side, take_item, behind_value, past, begun, met, step_of, end_of}
 use Rattle.packet.specs.declared.message.Direction.{Direction}
 use Rattle.packet.specs.declared.message.Direction.TheVariants.{Tx, Rx}
-use Rattle.packet.specs.declared.message.SqiItem.{SqiItem}
-use Rattle.packet.specs.declared.message.SqiItem.TheVariants as sqi
-use Rattle.packet.specs.declared.message.ClimaxItem.{ClimaxItem}
-use Rattle.packet.specs.declared.message.ClimaxItem.TheVariants as climax
-use Rattle.packet.specs.declared.message.SideItem.{SideItem}
-use Rattle.packet.specs.declared.message.SideItem.TheVariants as side
 use Rattle.packet.specs.declared.message.Items.{Items}
 use Rattle.items.specs.declared.scan.Mode.TheVariants.{Tail, Next, Value, Broken}
 use Rattle.items.specs.declared.scan.Scan.{Scan}
-use Rattle.items.specs.declared.scan.ItemsRead.{ItemsRead}
-use Rattle.items.specs.declared.scan.ItemsRead.TheVariants as read
 
 -- ---- what the rest of the bytes leads to
 
-abbrev pub led : Direction → Scan → List ℕ → ItemsRead
-led d s bytes = end_of (foldl (step_of d) s bytes)
+abbrev pub led : Direction → Scan → List ℕ → Option Items
+led d s bytes = end_of (fold (step_of d) s bytes)
 
-pub broken_stays : (d : Direction) (g : Bool) (k : Items) (bs : List ℕ) → led d (scan_at Broken g k) bs ≡ read.Broken
+pub broken_stays : (d : Direction) (g : Bool) (k : Items) (bs : List ℕ) → led d (scan_at Broken g k) bs ≡ None
 broken_stays d g k [] = refl
 broken_stays d g k (b ∷ bs) = broken_stays d g k bs
 
-pub tail_is : (d : Direction) (g : Bool) (k : Items) (bs : List ℕ) → led d (scan_at Tail g k) bs ≡ cond (all_zero bs) (read.Items k) read.Broken
+pub tail_is : (d : Direction) (g : Bool) (k : Items) (bs : List ℕ) → led d (scan_at Tail g k) bs ≡ cond (all_zero bs) (Some k) None
 unfolding all_zero
 tail_is d g k [] = refl
 tail_is d g k (b ∷ bs) = by_test (eqb b 0) (tail_is d g k bs)
   where
-    by_test : (t : Bool) → led d (scan_at Tail g k) bs ≡ cond (all_zero bs) (read.Items k) read.Broken
-        → led d (scan_at (cond t Tail Broken) g k) bs ≡ cond (t && all_zero bs) (read.Items k) read.Broken
+    by_test : (t : Bool) → led d (scan_at Tail g k) bs ≡ cond (all_zero bs) (Some k) None
+        → led d (scan_at (cond t Tail Broken) g k) bs ≡ cond (t && all_zero bs) (Some k) None
     by_test true h = h
     by_test false h = broken_stays d g k bs
 
@@ -71,22 +65,9 @@ kind t = by_one (eqb t 1) refl
     by_one true e = subst Kind (sym (eqb-true t 1 e)) one
     by_one false e = by_two (eqb t 2) refl e
 
-abbrev pub sqi_there : SqiItem → Bool
-sqi_there sqi.Absent = false
-sqi_there (sqi.Is q m) = true
-
-abbrev pub climax_there : ClimaxItem → Bool
-climax_there climax.Absent = false
-climax_there (climax.Is v) = true
-
-abbrev pub side_there : SideItem → Bool
-side_there side.Absent = false
-side_there side.Main = true
-side_there side.Standby = true
-
 -- an item of the type was taken before
 abbrev pub has : (ddc : Bool) → Items → ℕ → Bool
-has g k t = (eqb t 1 && sqi_there k.sqi) || (eqb t 2 && climax_there k.climax) || (eqb t 5 && side_there k.side) || (eqb t 4 && g)
+has g k t = (eqb t 1 && is_some k.sqi) || (eqb t 2 && is_some k.climax) || (eqb t 5 && is_some k.side) || (eqb t 4 && g)
 
 abbrev fits : Direction → (ddc : Bool) → Items → Item → Bool
 fits d g k i = item_allowed d i && not (has g k i.type)
@@ -105,44 +86,42 @@ item t v = record { type = t; value = v }
 
 -- ---- a run of items, taken one by one
 
-abbrev pub taken_in : Direction → (ddc : Bool) → Items → List Item → ItemsRead
-taken_in d g k [] = read.Items k
-taken_in d g k (i ∷ is) = cond (fits d g k i) (taken_in d (plus_ddc g i) (plus k i) is) read.Broken
+abbrev pub taken_in : Direction → (ddc : Bool) → Items → List Item → Option Items
+taken_in d g k [] = Some k
+taken_in d g k (i ∷ is) = cond (fits d g k i) (taken_in d (plus_ddc g i) (plus k i) is) None
 
-abbrev pub outcome : Direction → (ddc : Bool) → Items → Found → ItemsRead
+abbrev pub outcome : Direction → (ddc : Bool) → Items → Found → Option Items
 outcome d g k (found is) = taken_in d g k is
-outcome d g k broken = read.Broken
+outcome d g k broken = None
 
 outcome_behind : (d : Direction) (g : Bool) (k : Items) (i : Item) (f : Found)
-    → outcome d g k (behind i f) ≡ cond (fits d g k i) (outcome d (plus_ddc g i) (plus k i) f) read.Broken
+    → outcome d g k (behind i f) ≡ cond (fits d g k i) (outcome d (plus_ddc g i) (plus k i) f) None
 outcome_behind d g k i (found is) = refl
-outcome_behind d g k i broken = sym (either_way (fits d g k i) read.Broken)
+outcome_behind d g k i broken = sym (either_way (fits d g k i) None)
 
 -- ---- the tests of the scan and those of the table, type by type
 
-sqi_fits_lem : {R : Type 0} (d : Direction) (i : SqiItem) (a : Bool) (x y : R)
-    → cond (sqi_free d i && a) x y ≡ cond (((in_rx d && a) || false || false || false) && not (sqi_there i || false || false || false)) x y
-sqi_fits_lem Tx i a x y = refl
-sqi_fits_lem Rx sqi.Absent true x y = refl
-sqi_fits_lem Rx sqi.Absent false x y = refl
-sqi_fits_lem Rx (sqi.Is q m) true x y = refl
-sqi_fits_lem Rx (sqi.Is q m) false x y = refl
+sqi_fits_lem : {R : Type 0} (d : Direction) (there a : Bool) (x y : R)
+    → cond ((in_rx d && not there) && a) x y ≡ cond (((in_rx d && a) || false || false || false) && not (there || false || false || false)) x y
+sqi_fits_lem Tx there a x y = refl
+sqi_fits_lem Rx true true x y = refl
+sqi_fits_lem Rx true false x y = refl
+sqi_fits_lem Rx false true x y = refl
+sqi_fits_lem Rx false false x y = refl
 
-climax_fits_lem : {R : Type 0} (d : Direction) (i : ClimaxItem) (a : Bool) (x y : R)
-    → cond (climax_free d i && a) x y ≡ cond (((in_tx d && a) || false || false) && not (climax_there i || false || false)) x y
-climax_fits_lem Rx i a x y = refl
-climax_fits_lem Tx climax.Absent true x y = refl
-climax_fits_lem Tx climax.Absent false x y = refl
-climax_fits_lem Tx (climax.Is v) true x y = refl
-climax_fits_lem Tx (climax.Is v) false x y = refl
+climax_fits_lem : {R : Type 0} (d : Direction) (there a : Bool) (x y : R)
+    → cond ((in_tx d && not there) && a) x y ≡ cond (((in_tx d && a) || false || false) && not (there || false || false)) x y
+climax_fits_lem Rx there a x y = refl
+climax_fits_lem Tx true true x y = refl
+climax_fits_lem Tx true false x y = refl
+climax_fits_lem Tx false true x y = refl
+climax_fits_lem Tx false false x y = refl
 
-side_fits : {R : Type 0} (i : SideItem) (a : Bool) (x y : R) → cond (side_free i && a) x y ≡ cond ((a || false) && not (side_there i || false)) x y
-side_fits side.Absent true x y = refl
-side_fits side.Absent false x y = refl
-side_fits side.Main true x y = refl
-side_fits side.Main false x y = refl
-side_fits side.Standby true x y = refl
-side_fits side.Standby false x y = refl
+side_fits : {R : Type 0} (there a : Bool) (x y : R) → cond (not there && a) x y ≡ cond ((a || false) && not (there || false)) x y
+side_fits true true x y = refl
+side_fits true false x y = refl
+side_fits false true x y = refl
+side_fits false false x y = refl
 
 -- no type but 4 has a value of another length
 long_barred : (d : Direction) (i : Item) → eqb i.type 4 ≡ false → one_byte i ≡ false → item_allowed d i ≡ false
@@ -157,37 +136,37 @@ Rest d bs = (n : ℕ) (g : Bool) (k : Items) → led d (scan_at (past n) g k) bs
 
 module _ (d : Direction) (g : Bool) (k : Items) where
   -- what the items lead to that begin with a head
-  abbrev from : (t l : ℕ) → List ℕ → ItemsRead
+  abbrev from : (t l : ℕ) → List ℕ → Option Items
   from t l bs = outcome d g k (behind (item t (take l bs)) (items_behind l bs))
 
-  no_fit : (i : Item) (f : Found) → item_allowed d i ≡ false → read.Broken ≡ outcome d g k (behind i f)
+  no_fit : (i : Item) (f : Found) → item_allowed d i ≡ false → None ≡ outcome d g k (behind i f)
   no_fit i f e = sym (outcome_behind d g k i f ∙ simp e)
 
   -- of another length: broken, whether its value is whole or not
-  other_length : (t l : ℕ) (bs : List ℕ) → eqb t 4 ≡ false → eqb l 1 ≡ false → read.Broken ≡ from t l bs
+  other_length : (t l : ℕ) (bs : List ℕ) → eqb t 4 ≡ false → eqb l 1 ≡ false → None ≡ from t l bs
   other_length t l bs p q = by_found (items_behind l bs) refl
     where
-      by_found : (f : Found) → items_behind l bs ≡ f → read.Broken ≡ outcome d g k (behind (item t (take l bs)) f)
+      by_found : (f : Found) → items_behind l bs ≡ f → None ≡ outcome d g k (behind (item t (take l bs)) f)
       by_found (found is) e = no_fit (item t (take l bs)) (found is) (long_barred d (item t (take l bs)) p (ap (λ (n : ℕ). eqb n 1) (value_whole l bs is e) ∙ q))
       by_found broken e = refl
 
   -- a value byte, allowed or not
-  after_value : (a : Bool) (j : Items) (rest : List ℕ) → led d (behind_value g k (cond a (read.Items j) read.Broken)) rest ≡ cond a (led d (scan_at Next g j) rest) read.Broken
+  after_value : (a : Bool) (j : Items) (rest : List ℕ) → led d (behind_value g k (cond a (Some j) None)) rest ≡ cond a (led d (scan_at Next g j) rest) None
   after_value true j rest = refl
   after_value false j rest = broken_stays d g k rest
 
-  abbrev took : ℕ → ℕ → ItemsRead
-  took t v = cond (eqb t 1) (take_sqi d k v) (cond (eqb t 2) (take_climax d k v) (cond (eqb t 5) (take_side k v) read.Broken))
+  abbrev took : ℕ → ℕ → Option Items
+  took t v = cond (eqb t 1) (take_sqi d k v) (cond (eqb t 2) (take_climax d k v) (cond (eqb t 5) (take_side k v) None))
 
   one_byte_lem : (t v : ℕ) (rest : List ℕ) → Kind t → eqb t 4 ≡ false
-      → led d (behind_value g k (took t v)) rest ≡ cond (fits d g k (item t (v ∷ []))) (led d (scan_at Next g (plus k (item t (v ∷ [])))) rest) read.Broken
+      → led d (behind_value g k (took t v)) rest ≡ cond (fits d g k (item t (v ∷ []))) (led d (scan_at Next g (plus k (item t (v ∷ [])))) rest) None
   unfolding item_allowed take_sqi take_climax take_side
   one_byte_lem t v rest one e =
       after_value (sqi_free d k.sqi && sqi_allowed (sqi_quality v) (sqi_method v)) (with_sqi k v) rest
-      ∙ sqi_fits_lem d k.sqi (sqi_allowed (sqi_quality v) (sqi_method v)) _ _
-  one_byte_lem t v rest two e = after_value (climax_free d k.climax && climax_allowed v) (with_climax k v) rest ∙ climax_fits_lem d k.climax (climax_allowed v) _ _
+      ∙ sqi_fits_lem d (is_some k.sqi) (sqi_allowed (sqi_quality v) (sqi_method v)) _ _
+  one_byte_lem t v rest two e = after_value (climax_free d k.climax && climax_allowed v) (with_climax k v) rest ∙ climax_fits_lem d (is_some k.climax) (climax_allowed v) _ _
   one_byte_lem t v rest four e = cc
-  one_byte_lem t v rest five e = after_value (side_free k.side && side_allowed v) (with_side k v) rest ∙ side_fits k.side (side_allowed v) _ _
+  one_byte_lem t v rest five e = after_value (side_free k.side && side_allowed v) (with_side k v) rest ∙ side_fits (is_some k.side) (side_allowed v) _ _
   one_byte_lem t v rest (other p q r s) e = simp (p, q, r, s) (broken_stays d g k rest)
 
   -- an item of length 1 that is kept
@@ -196,19 +175,19 @@ module _ (d : Direction) (g : Bool) (k : Items) where
   one_kept t v rest ih e =
       let i : Item = item t (v ∷ []) in
       one_byte_lem t v rest (kind t) e
-      ∙ ap (λ (r : ItemsRead). cond (fits d g k i) r read.Broken) (ih 1 g (plus k i))
-      ∙ ap (λ (h : Bool). cond (fits d g k i) (outcome d (h || g) (plus k i) (items_behind 0 rest)) read.Broken) (sym e)
+      ∙ ap (λ (r : Option Items). cond (fits d g k i) r None) (ih 1 g (plus k i))
+      ∙ ap (λ (h : Bool). cond (fits d g k i) (outcome d (h || g) (plus k i) (items_behind 0 rest)) None) (sym e)
       ∙ sym (outcome_behind d g k i (items_behind 0 rest))
 
   -- of any length
   abbrev Valued : (t v : ℕ) (rest : List ℕ) (l : ℕ) → Type 0
-  Valued t v rest l = led d (behind_value g k (cond (not (eqb l 1)) read.Broken (took t v))) rest ≡ from t l (v ∷ rest)
+  Valued t v rest l = led d (behind_value g k (cond (not (eqb l 1)) None (took t v))) rest ≡ from t l (v ∷ rest)
 
   value_is : (b : ℕ) (bs : List ℕ) → Rest d bs → eqb (item_type b) 4 ≡ false → led d (scan_at (Value b) g k) bs ≡ from (item_type b) (item_length b) bs
   unfolding take_item items_behind
   value_is b [] ih e = nothing (item_length b)
     where
-      nothing : (l : ℕ) → read.Broken ≡ from (item_type b) l []
+      nothing : (l : ℕ) → None ≡ from (item_type b) l []
       nothing zero = other_length (item_type b) 0 [] e refl
       nothing (suc l) = refl
   value_is b (v ∷ rest) ih e = by_length (item_length b) (eqb (item_length b) 1) refl

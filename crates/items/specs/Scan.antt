@@ -1,72 +1,59 @@
 -- For proofs alone: what the scan does with one byte after another. (Its private functions promise these; proofs/Meaning.antt
 -- shows that it finds `items_read`.)
-use Rattle.std.specs.Prelude.{ℕ, zero, suc, Bool, true, false, cond, not, ◌&&◌, ◌||◌, eqb}
-use mathlib.Core.List.{List, foldl}
-use Rattle.packet.specs.Items.{item_type, item_length, sqi_type, climax_type, ddc_type, side_type, sqi_quality, sqi_method, sqi_allowed, climax_delay, climax_allowed, side_allowed, side_of}
+use Rattle.std.specs.Prelude.{ℕ, zero, suc, Bool, true, false, cond, not, ◌&&◌, ◌||◌, eqb, List, Option, None, Some, is_none}
+use Rattle.std.specs.List.{fold}
+use Rattle.packet.specs.Items.{item_type, item_length, sqi_type, climax_type, ddc_type, side_type, sqi_quality, sqi_method, sqi_allowed, climax_delay, climax_allowed, side_allowed, side_of, in_tx, in_rx}
 use Rattle.packet.specs.declared.message.Direction.{Direction}
-use Rattle.packet.specs.declared.message.Direction.TheVariants.{Tx, Rx}
-use Rattle.packet.specs.declared.message.SqiItem.{SqiItem}
-use Rattle.packet.specs.declared.message.SqiItem.TheVariants as sqi
-use Rattle.packet.specs.declared.message.ClimaxItem.{ClimaxItem}
-use Rattle.packet.specs.declared.message.ClimaxItem.TheVariants as climax
-use Rattle.packet.specs.declared.message.SideItem.{SideItem}
-use Rattle.packet.specs.declared.message.SideItem.TheVariants as side
+use Rattle.packet.specs.declared.message.Sqi.{Sqi}
+use Rattle.packet.specs.declared.message.Side.{Side}
 use Rattle.packet.specs.declared.message.Items.{Items}
 use Rattle.items.specs.declared.scan.Mode.{Mode}
 use Rattle.items.specs.declared.scan.Mode.TheVariants.{Tail, First, Next, Value, Skip, Broken}
 use Rattle.items.specs.declared.scan.Scan.{Scan}
-use Rattle.items.specs.declared.scan.ItemsRead.{ItemsRead}
-use Rattle.items.specs.declared.scan.ItemsRead.TheVariants as read
 
 -- an item of each type may stand where its direction has it and none was there before
-abbrev pub sqi_free : Direction → SqiItem → Bool
-sqi_free Tx i = false
-sqi_free Rx sqi.Absent = true
-sqi_free Rx (sqi.Is q m) = false
+abbrev pub sqi_free : Direction → Option Sqi → Bool
+sqi_free d i = in_rx d && is_none i
 
-abbrev pub climax_free : Direction → ClimaxItem → Bool
-climax_free Rx i = false
-climax_free Tx climax.Absent = true
-climax_free Tx (climax.Is v) = false
+abbrev pub climax_free : Direction → Option ℕ → Bool
+climax_free d i = in_tx d && is_none i
 
-abbrev pub side_free : SideItem → Bool
-side_free side.Absent = true
-side_free side.Main = false
-side_free side.Standby = false
+abbrev pub side_free : Option Side → Bool
+side_free i = is_none i
 
 abbrev pub scan_at : Mode → (ddc : Bool) → Items → Scan
 scan_at m g k = record { mode = m; ddc = g; items = k }
 
 abbrev pub with_sqi : Items → ℕ → Items
-with_sqi k b = record { sqi = sqi.Is (sqi_quality b) (sqi_method b); climax = k.climax; side = k.side }
+with_sqi k b = record { sqi = Some (record { quality = sqi_quality b; method = sqi_method b }); climax = k.climax; side = k.side }
 
 abbrev pub with_climax : Items → ℕ → Items
-with_climax k b = record { sqi = k.sqi; climax = climax.Is (climax_delay b); side = k.side }
+with_climax k b = record { sqi = k.sqi; climax = Some (climax_delay b); side = k.side }
 
 abbrev pub with_side : Items → ℕ → Items
-with_side k b = record { sqi = k.sqi; climax = k.climax; side = side_of b }
+with_side k b = record { sqi = k.sqi; climax = k.climax; side = Some (side_of b) }
 
-unfoldable pub take_sqi : Direction → Items → ℕ → ItemsRead
-take_sqi d k b = cond (sqi_free d k.sqi && sqi_allowed (sqi_quality b) (sqi_method b)) (read.Items (with_sqi k b)) read.Broken
+unfoldable pub take_sqi : Direction → Items → ℕ → Option Items
+take_sqi d k b = cond (sqi_free d k.sqi && sqi_allowed (sqi_quality b) (sqi_method b)) (Some (with_sqi k b)) None
 
-unfoldable pub take_climax : Direction → Items → ℕ → ItemsRead
-take_climax d k b = cond (climax_free d k.climax && climax_allowed b) (read.Items (with_climax k b)) read.Broken
+unfoldable pub take_climax : Direction → Items → ℕ → Option Items
+take_climax d k b = cond (climax_free d k.climax && climax_allowed b) (Some (with_climax k b)) None
 
-unfoldable pub take_side : Items → ℕ → ItemsRead
-take_side k b = cond (side_free k.side && side_allowed b) (read.Items (with_side k b)) read.Broken
+unfoldable pub take_side : Items → ℕ → Option Items
+take_side k b = cond (side_free k.side && side_allowed b) (Some (with_side k b)) None
 
 -- an item that is kept, once its value is there
-unfoldable pub take_item : Direction → Items → (head value : ℕ) → ItemsRead
+unfoldable pub take_item : Direction → Items → (head value : ℕ) → Option Items
 take_item d k head value =
-    cond (not (eqb (item_length head) 1)) read.Broken
+    cond (not (eqb (item_length head) 1)) None
     (cond (eqb (item_type head) sqi_type) (take_sqi d k value)
     (cond (eqb (item_type head) climax_type) (take_climax d k value)
     (cond (eqb (item_type head) side_type) (take_side k value)
-    read.Broken)))
+    None)))
 
-abbrev pub behind_value : (ddc : Bool) → Items → ItemsRead → Scan
-behind_value g k (read.Items more) = scan_at Next g more
-behind_value g k read.Broken = scan_at Broken g k
+abbrev pub behind_value : (ddc : Bool) → Items → Option Items → Scan
+behind_value g k (Some more) = scan_at Next g more
+behind_value g k None = scan_at Broken g k
 
 abbrev pub in_zeros : ℕ → Mode
 in_zeros b = cond (eqb b 0) Tail Broken
@@ -101,10 +88,10 @@ abbrev pub step_of : Direction → Scan → ℕ → Scan
 step_of d s b = step_in d s.mode s.ddc s.items b
 
 unfoldable pub scan_of : Direction → Scan → List ℕ → Scan
-scan_of d s bytes = foldl (step_of d) s bytes
+scan_of d s bytes = fold (step_of d) s bytes
 
 abbrev pub no_items : Items
-no_items = record { sqi = sqi.Absent; climax = climax.Absent; side = side.Absent }
+no_items = record { sqi = None; climax = None; side = None }
 
 abbrev pub start_in : ℕ → Mode
 start_in x = cond (eqb x 0) Tail First
@@ -117,5 +104,5 @@ may_end (Value head) = false
 may_end (Skip n) = false
 may_end Broken = false
 
-abbrev pub end_of : Scan → ItemsRead
-end_of s = cond (may_end s.mode) (read.Items s.items) read.Broken
+abbrev pub end_of : Scan → Option Items
+end_of s = cond (may_end s.mode) (Some s.items) None

@@ -4,4 +4,4 @@
 
 pub mod scan;
 
-pub use scan::{ItemsRead, items_in};
+pub use scan::items_in;

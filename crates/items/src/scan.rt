@@ -2,10 +2,19 @@
 // specs/ItemsIn.antt has the meaning, specs/Scan.antt what one byte does; proofs/Meaning.antt shows that they agree.
 ghost use Rattle.std.specs.Prelude.{◌≡◌};
 ghost use Rattle.packet.specs.Items.{side_of};
-ghost use Rattle.items.specs.Scan.{sqi_free, climax_free, side_free, scan_at, take_sqi, take_climax, take_side, take_item, behind_value, in_zeros, past, is_ddc, begun, behind_item, step_of, scan_of, start_in, may_end, end_of};
+ghost use Rattle.items.specs.Scan.{take_sqi, take_climax, take_side, take_item, behind_value, in_zeros, past, is_ddc, begun, behind_item, step_of, scan_of, start_in, may_end, end_of};
 ghost use Rattle.items.specs.ItemsIn.{items_read};
 
-use packet::{ClimaxItem, Direction, Items, SideItem, SqiItem, sqi_allowed};
+use packet::{Direction, Items, Side, Sqi, sqi_allowed};
+
+// The types of the table.
+const SQI: u8 = 1;
+
+const CLIMAX: u8 = 2;
+
+const DDC: u8 = 4;
+
+const SIDE: u8 = 5;
 
 // Where the scan stands.
 #[derive(Clone, Copy)]
@@ -32,146 +41,85 @@ pub struct Scan {
     pub items: Items,
 }
 
-// The items of the bytes so far, or that they break a rule.
-#[derive(Clone, Copy)]
-pub enum ItemsRead {
-    Items(Items),
-    Broken,
-}
-
-// An SQI item may stand: in RX, and if there is none yet.
-fn sqi_free(d: Direction, i: SqiItem) -> bool
-    ensures { result ≡ sqi_free d i }
-{
-    match d {
-        Direction::Tx => false,
-        Direction::Rx => match i {
-            SqiItem::Absent => true,
-            SqiItem::Is {
-                quality: _,
-                method: _,
-            } => false,
-        },
-    }
-}
-
-// A CLIMAX item may stand: in TX, and if there is none yet.
-fn climax_free(d: Direction, i: ClimaxItem) -> bool
-    ensures { result ≡ climax_free d i }
-{
-    match d {
-        Direction::Rx => false,
-        Direction::Tx => match i {
-            ClimaxItem::Absent => true,
-            ClimaxItem::Is(_) => false,
-        },
-    }
-}
-
-// A main/standby item may stand: if there is none yet.
-fn side_free(i: SideItem) -> bool
-    ensures { result ≡ side_free i }
-{
-    match i {
-        SideItem::Absent => true,
-        SideItem::Main => false,
-        SideItem::Standby => false,
-    }
-}
-
-fn at(mode: Mode, ddc: bool, items: Items) -> Scan
-    ensures { result ≡ scan_at mode ddc items }
-{
-    Scan { mode, ddc, items }
-}
-
-fn take_sqi(d: Direction, items: Items, b: u8) -> ItemsRead
+// SQI may stand in RX, once.
+#[tactic(auto, unfolding(crate::specs::Scan::take_sqi))]
+fn take_sqi(d: Direction, items: Items, b: u8) -> Option<Items>
     ensures { result ≡ take_sqi d items b }
 {
-    let before = items.sqi;
-    let climax = items.climax;
-    let side = items.side;
-    let quality = b / 8 % 32;
-    let method = b % 8;
-    let fits = sqi_free(d, before) & sqi_allowed(quality, method);
-    if fits {
-        let sqi = SqiItem::Is { quality, method };
-        ItemsRead::Items(Items { sqi, climax, side })
-    } else {
-        ItemsRead::Broken
-    }
+    let sqi = Sqi {
+        quality: b / 8,
+        method: b % 8,
+    };
+    let free = matches!(d, Direction::Rx) && items.sqi.is_none();
+    let fits = free && sqi_allowed(sqi.quality, sqi.method);
+    fits.then_some(Items {
+        sqi: Some(sqi),
+        ..items
+    })
 }
 
-fn take_climax(d: Direction, items: Items, b: u8) -> ItemsRead
+// CLIMAX may stand in TX, once, under a high bit 1.
+#[tactic(auto, unfolding(crate::specs::Scan::take_climax))]
+fn take_climax(d: Direction, items: Items, b: u8) -> Option<Items>
     ensures { result ≡ take_climax d items b }
 {
-    let sqi = items.sqi;
-    let before = items.climax;
-    let side = items.side;
-    let fits = climax_free(d, before) & (b / 128 % 2 == 1);
-    if fits {
-        let climax = ClimaxItem::Is(b % 128);
-        ItemsRead::Items(Items { sqi, climax, side })
-    } else {
-        ItemsRead::Broken
-    }
+    let free = matches!(d, Direction::Tx) && items.climax.is_none();
+    let fits = free && b >= 128;
+    fits.then_some(Items {
+        climax: Some(b % 128),
+        ..items
+    })
 }
 
-fn take_side(items: Items, b: u8) -> ItemsRead
+// Main/standby may stand once, its low bits 0.
+#[tactic(auto, unfolding(crate::specs::Scan::take_side))]
+fn take_side(items: Items, b: u8) -> Option<Items>
     ensures { result ≡ take_side items b }
 {
-    let sqi = items.sqi;
-    let climax = items.climax;
-    let before = items.side;
-    let fits = side_free(before) & (b % 128 == 0);
-    if fits {
-        let side = side_of(b);
-        ItemsRead::Items(Items { sqi, climax, side })
-    } else {
-        ItemsRead::Broken
-    }
+    let fits = items.side.is_none() && b % 128 == 0;
+    fits.then_some(Items {
+        side: Some(side_of(b)),
+        ..items
+    })
 }
 
-fn side_of(b: u8) -> SideItem
+fn side_of(b: u8) -> Side
     ensures { result ≡ side_of b }
 {
-    let high = b / 128 % 2;
-    if high == 1 {
-        SideItem::Standby
-    } else {
-        SideItem::Main
-    }
+    if b >= 128 { Side::Standby } else { Side::Main }
 }
 
 // An item that is kept, by its first byte (type in the high half, length 1 in the low half) and its value.
-#[tactic(auto, using(base::proofs::Tests::tests), unfolding(crate::specs::Scan::take_item))]
-fn take(d: Direction, items: Items, head: u8, b: u8) -> ItemsRead
+#[tactic(auto, unfolding(crate::specs::Scan::take_item))]
+fn take(d: Direction, items: Items, head: u8, b: u8) -> Option<Items>
     ensures { result ≡ take_item d items head b }
 {
-    let item_length = head % 16;
-    if item_length != 1 {
-        return ItemsRead::Broken;
+    if head % 16 != 1 {
+        return None;
     }
-    let kind = head / 16 % 16;
-    if kind == 1 {
-        return take_sqi(d, items, b);
+    match head / 16 {
+        SQI => take_sqi(d, items, b),
+        CLIMAX => take_climax(d, items, b),
+        SIDE => take_side(items, b),
+        _ => None,
     }
-    if kind == 2 {
-        return take_climax(d, items, b);
-    }
-    if kind == 5 {
-        return take_side(items, b);
-    }
-    ItemsRead::Broken
 }
 
 // Behind its value an item is kept, or a rule was broken.
-fn behind_value(ddc: bool, items: Items, read: ItemsRead) -> Scan
-    ensures { result ≡ behind_value ddc items read }
+fn behind_value(ddc: bool, items: Items, taken: Option<Items>) -> Scan
+    ensures { result ≡ behind_value ddc items taken }
 {
-    match read {
-        ItemsRead::Items(more) => at(Mode::Next, ddc, more),
-        ItemsRead::Broken => at(Mode::Broken, ddc, items),
+    match taken {
+        Some(items) => Scan {
+            mode: Mode::Next,
+            ddc,
+            items,
+        },
+        None => Scan {
+            mode: Mode::Broken,
+            ddc,
+            items,
+        },
     }
 }
 
@@ -196,17 +144,19 @@ fn past(n: u8) -> Mode
 fn is_ddc(b: u8) -> bool
     ensures { result ≡ is_ddc b }
 {
-    b / 16 % 16 == 4
+    b / 16 == DDC
 }
 
 // An item's first byte. Of type 4 there is one, of any length, and its value is stepped over (02, request 1).
 fn begun(ddc: bool, b: u8) -> Mode
     ensures { result ≡ begun ddc b }
 {
-    if is_ddc(b) {
-        if ddc { Mode::Broken } else { past(b % 16) }
-    } else {
+    if !is_ddc(b) {
         Mode::Value(b)
+    } else if ddc {
+        Mode::Broken
+    } else {
+        past(b % 16)
     }
 }
 
@@ -221,31 +171,35 @@ fn behind_item(ddc: bool, b: u8) -> Mode
 fn step(d: Direction, s: Scan, b: u8) -> Scan
     ensures { result ≡ step_of d s b }
 {
-    let mode = s.mode;
-    let ddc = s.ddc;
-    let items = s.items;
-    let met = is_ddc(b) | ddc;
+    let Scan { mode, ddc, items } = s;
+    let met = is_ddc(b) || ddc;
     match mode {
-        Mode::Tail => at(in_zeros(b), ddc, items),
-        Mode::First => at(begun(ddc, b), met, items),
-        Mode::Next => at(behind_item(ddc, b), met, items),
+        Mode::Tail => Scan {
+            mode: in_zeros(b),
+            ..s
+        },
+        Mode::First => Scan {
+            mode: begun(ddc, b),
+            ddc: met,
+            items,
+        },
+        Mode::Next => Scan {
+            mode: behind_item(ddc, b),
+            ddc: met,
+            items,
+        },
         Mode::Value(head) => behind_value(ddc, items, take(d, items, head, b)),
-        Mode::Skip(n) => at(past(n), ddc, items),
-        Mode::Broken => at(Mode::Broken, ddc, items),
+        Mode::Skip(n) => Scan { mode: past(n), ..s },
+        Mode::Broken => s,
     }
 }
 
 // All bytes.
+#[tactic(auto, unfolding(crate::specs::Scan::scan_of))]
 fn scanned(d: Direction, start: Scan, s: &[u8]) -> Scan
     ensures { result ≡ scan_of d start s.now }
 {
-    let mut scan = start;
-    let mut i = 0;
-    while i < s.len() {
-        scan = step(d, scan, s[i]);
-        i += 1;
-    }
-    scan
+    s.iter().fold(start, |scan, b| step(d, scan, *b))
 }
 
 // X = 0: zeros alone; X = 1: at least one item.
@@ -259,38 +213,24 @@ fn start(x: u16) -> Mode
 fn may_end(mode: Mode) -> bool
     ensures { result ≡ may_end mode }
 {
-    match mode {
-        Mode::Tail => true,
-        Mode::First => false,
-        Mode::Next => true,
-        Mode::Value(_) => false,
-        Mode::Skip(_) => false,
-        Mode::Broken => false,
-    }
+    matches!(mode, Mode::Tail | Mode::Next)
 }
 
-fn end(s: Scan) -> ItemsRead
+fn end(s: Scan) -> Option<Items>
     ensures { result ≡ end_of s }
 {
-    let mode = s.mode;
-    let items = s.items;
-    let ended = may_end(mode);
-    if ended {
-        ItemsRead::Items(items)
-    } else {
-        ItemsRead::Broken
-    }
+    may_end(s.mode).then_some(s.items)
 }
 
 // The items that the bytes hold under X, the bytes after the first two of the words.
-pub fn items_in(d: Direction, x: u16, s: &[u8]) -> ItemsRead
+#[tactic(auto, using(crate::proofs::Meaning::scan_is))]
+pub fn items_in(d: Direction, x: u16, s: &[u8]) -> Option<Items>
     ensures { result ≡ items_read d x s.now }
 {
-    let none = Items {
-        sqi: SqiItem::Absent,
-        climax: ClimaxItem::Absent,
-        side: SideItem::Absent,
+    let first = Scan {
+        mode: start(x),
+        ddc: false,
+        items: Items::NONE,
     };
-    let first = at(start(x), false, none);
     end(scanned(d, first, s))
 }
