@@ -5,18 +5,16 @@ use mathlib.Core.Bool.{Bool, true, false, cond, not, ◌&&◌, ◌||◌, false�
 use mathlib.Core.List.{List}
 use mathlib.Core.Logic.{◌⊎◌, inl, inr}
 use native.Mathlib.Omega.{arith}
+use Rattle.std.specs.Prelude.{Option, None, Some}
 use lib.Dec.{ltb, leb, eqb}
 use lib.ListN.{length}
 use borrow.Author.Tests.{ltb-true, lt-ltb, leb-false, lt-leb, eqb-true, eqb-false, ne_eqb}
 use Rattle.base.proofs.Truths.{and_none}
 use Rattle.packet.specs.Items.{sqi_allowed}
 use Rattle.packet.proofs.InWords.{MetIf, Agree}
-use Rattle.packet.specs.declared.message.SqiItem.{SqiItem}
-use Rattle.packet.specs.declared.message.SqiItem.TheVariants as sqi
-use Rattle.packet.specs.declared.message.ClimaxItem.{ClimaxItem}
-use Rattle.packet.specs.declared.message.ClimaxItem.TheVariants as climax
-use Rattle.packet.specs.declared.message.SideItem.{SideItem}
-use Rattle.packet.specs.declared.message.SideItem.TheVariants as side
+use Rattle.packet.specs.declared.message.Sqi.{Sqi}
+use Rattle.packet.specs.declared.message.Side.{Side}
+use Rattle.packet.specs.declared.message.Side.TheVariants.{Main, Standby}
 use Rattle.packet.specs.declared.message.Items.{Items}
 use Rattle.packet.specs.declared.message.Message.{Message}
 use Rattle.writer.specs.Writing.{rising_items, item_bytes, fewest_words, encode, sqi_writable, climax_writable, audio_writable, writable, writer_refusals, put_refusals}
@@ -46,18 +44,18 @@ module _ (m : Message) (sound : List ℕ) (room : ℕ) where
   abbrev Barred : (number cause : ℕ) → Type 0
   Barred = WriterBarred m sound room
 
-  sqi_barred : (i : SqiItem) → m.items.sqi ≡ i → sqi_writable i ≡ false → Barred 27 0
-  sqi_barred sqi.Absent is e = absurd (false≢true (sym e))
-  sqi_barred (sqi.Is quality method) is e = by_tests (leb method 3) (eqb method 0) refl refl e
+  sqi_barred : (i : Option Sqi) → m.items.sqi ≡ i → sqi_writable i ≡ false → Barred 27 0
+  sqi_barred None is e = absurd (false≢true (sym e))
+  sqi_barred (Some s) is e = by_tests (leb s.method 3) (eqb s.method 0) refl refl e
     where
-      by_tests : (known rssi : Bool) → leb method 3 ≡ known → eqb method 0 ≡ rssi → known && leb quality (cond rssi 15 31) ≡ false → Barred 27 0
-      by_tests false rssi p q h = no_method quality method is (leb-false method 3 p)
-      by_tests true true p q h = no_rssi quality (is ∙ ap (sqi.Is quality) (eqb-true method 0 q)) (leb-false quality 15 h)
-      by_tests true false p q h = no_quality quality method is (leb-false quality 31 h)
+      by_tests : (known rssi : Bool) → leb s.method 3 ≡ known → eqb s.method 0 ≡ rssi → known && leb s.quality (cond rssi 15 31) ≡ false → Barred 27 0
+      by_tests false rssi p q h = no_method s is (leb-false s.method 3 p)
+      by_tests true true p q h = no_rssi s is (eqb-true s.method 0 q) (leb-false s.quality 15 h)
+      by_tests true false p q h = no_quality s is (leb-false s.quality 31 h)
 
-  climax_barred : (i : ClimaxItem) → m.items.climax ≡ i → climax_writable i ≡ false → Barred 27 0
-  climax_barred climax.Absent is e = absurd (false≢true (sym e))
-  climax_barred (climax.Is delay) is e = no_delay delay is (leb-false delay 127 e)
+  climax_barred : (i : Option ℕ) → m.items.climax ≡ i → climax_writable i ≡ false → Barred 27 0
+  climax_barred None is e = absurd (false≢true (sym e))
+  climax_barred (Some delay) is e = no_delay delay is (leb-false delay 127 e)
 
   unwritable_quality : (quality method : ℕ) → (limit : ℕ) → limit < quality → ((t : Bool) → eqb method 0 ≡ t → cond t 15 31 ≤ limit) → sqi_allowed quality method ≡ false
   unwritable_quality quality method limit h most = simp (lt-leb quality (cond (eqb method 0) 15 31) (let l = most (eqb method 0) refl in omega arith)) (and_none (leb method 3))
@@ -82,40 +80,31 @@ module _ (m : Message) (sound : List ℕ) (room : ℕ) where
       only_if : (c : ℕ) → Barred 27 c → (not (writable m (length sound)) ≡ true) × (c ≡ 0)
       only_if c (no_type h) = (simp (lt-leb m.ptt 5 h), refl)
       only_if c (no_id h) = (simp (lt-leb m.id 63 h, and_none), refl)
-      only_if c (no_method quality method is h) = (simp (is, lt-leb method 3 h, and_none), refl)
-      only_if c (no_quality quality method is h) = (simp (is, unwritable_quality quality method 31 h (λ t e. either_limit t), and_none), refl)
-      only_if c (no_rssi quality is h) = (simp (is, lt-leb quality 15 h, and_none), refl)
+      only_if c (no_method s is h) = (simp (is, lt-leb s.method 3 h, and_none), refl)
+      only_if c (no_quality s is h) = (simp (is, unwritable_quality s.quality s.method 31 h (λ t e. either_limit t), and_none), refl)
+      only_if c (no_rssi s is r h) = (simp (is, r, lt-leb s.quality 15 h, and_none), refl)
       only_if c (no_delay delay is h) = (simp (is, lt-leb delay 127 h, and_none), refl)
       only_if c (no_length a d e f) = (simp (not_audio (length sound) a d e f, and_none), refl)
 
 -- ---- 26
 
 -- an item that is there
-a_quality : {q m : ℕ} → sqi.Is q m ≡ sqi.Absent → ⊥
-a_quality e = let z : ◌≡◌ {A = ℕ} 0 1 = cc in omega arith
-
-a_delay : {v : ℕ} → climax.Is v ≡ climax.Absent → ⊥
-a_delay e = let z : ◌≡◌ {A = ℕ} 0 1 = cc in omega arith
-
-main_there : side.Main ≡ side.Absent → ⊥
-main_there e = let z : ◌≡◌ {A = ℕ} 0 1 = cc in omega arith
-
-standby_there : side.Standby ≡ side.Absent → ⊥
-standby_there e = let z : ◌≡◌ {A = ℕ} 0 1 = cc in omega arith
+there : {A : Type 0} {a : A} → Some a ≡ None → ⊥
+there e = cc
 
 -- an item alone, or none
 module _ (k : Items) where
-  sqi_alone : k.climax ≡ climax.Absent → k.side ≡ side.Absent → TwoItems k → ⊥
+  sqi_alone : k.climax ≡ None → k.side ≡ None → TwoItems k → ⊥
   sqi_alone c s (sqi_climax a e) = e c
   sqi_alone c s (sqi_side a e) = e s
   sqi_alone c s (climax_side a e) = e s
 
-  climax_alone : k.sqi ≡ sqi.Absent → k.side ≡ side.Absent → TwoItems k → ⊥
+  climax_alone : k.sqi ≡ None → k.side ≡ None → TwoItems k → ⊥
   climax_alone q s (sqi_climax a e) = a q
   climax_alone q s (sqi_side a e) = a q
   climax_alone q s (climax_side a e) = e s
 
-  side_alone : k.sqi ≡ sqi.Absent → k.climax ≡ climax.Absent → TwoItems k → ⊥
+  side_alone : k.sqi ≡ None → k.climax ≡ None → TwoItems k → ⊥
   side_alone q c (sqi_climax a e) = a q
   side_alone q c (sqi_side a e) = a q
   side_alone q c (climax_side a e) = a c
@@ -124,23 +113,20 @@ module _ (k : Items) where
   abbrev pub ItsWords : Type 0
   ItsWords = ((TwoItems k → ⊥) × (fewest_words (rising_items k) ≡ 1)) ⊎ (TwoItems k × (fewest_words (rising_items k) ≡ 2))
 
-words_of : (q : SqiItem) (c : ClimaxItem) (s : SideItem) → ItsWords (record { sqi = q; climax = c; side = s })
+words_of : (q : Option Sqi) (c : Option ℕ) (s : Option Side) → ItsWords (record { sqi = q; climax = c; side = s })
 unfolding rising_items item_bytes
-words_of sqi.Absent climax.Absent s = inl (side_alone _ refl refl, one_side s)
-  where
-    one_side : (s : SideItem) → fewest_words (rising_items (record { sqi = sqi.Absent; climax = climax.Absent; side = s })) ≡ 1
-    one_side side.Absent = refl
-    one_side side.Main = refl
-    one_side side.Standby = refl
-words_of (sqi.Is q m) climax.Absent side.Absent = inl (sqi_alone _ refl refl, refl)
-words_of (sqi.Is q m) climax.Absent side.Main = inr (sqi_side a_quality main_there, refl)
-words_of (sqi.Is q m) climax.Absent side.Standby = inr (sqi_side a_quality standby_there, refl)
-words_of sqi.Absent (climax.Is v) side.Absent = inl (climax_alone _ refl refl, refl)
-words_of sqi.Absent (climax.Is v) side.Main = inr (climax_side a_delay main_there, refl)
-words_of sqi.Absent (climax.Is v) side.Standby = inr (climax_side a_delay standby_there, refl)
-words_of (sqi.Is q m) (climax.Is v) side.Absent = inr (sqi_climax a_quality a_delay, refl)
-words_of (sqi.Is q m) (climax.Is v) side.Main = inr (sqi_climax a_quality a_delay, refl)
-words_of (sqi.Is q m) (climax.Is v) side.Standby = inr (sqi_climax a_quality a_delay, refl)
+words_of None None None = inl (side_alone _ refl refl, refl)
+words_of None None (Some Main) = inl (side_alone _ refl refl, refl)
+words_of None None (Some Standby) = inl (side_alone _ refl refl, refl)
+words_of (Some q) None None = inl (sqi_alone _ refl refl, refl)
+words_of (Some q) None (Some Main) = inr (sqi_side there there, refl)
+words_of (Some q) None (Some Standby) = inr (sqi_side there there, refl)
+words_of None (Some v) None = inl (climax_alone _ refl refl, refl)
+words_of None (Some v) (Some Main) = inr (climax_side there there, refl)
+words_of None (Some v) (Some Standby) = inr (climax_side there there, refl)
+words_of (Some q) (Some v) None = inr (sqi_climax there there, refl)
+words_of (Some q) (Some v) (Some Main) = inr (sqi_climax there there, refl)
+words_of (Some q) (Some v) (Some Standby) = inr (sqi_climax there there, refl)
 
 module _ (ext : ℕ) (m : Message) (sound : List ℕ) (room : ℕ) where
   by_room : MetIf (WriterBarred m sound room) 26 (ltb room (length (encode ext m sound)))

@@ -1,4 +1,3 @@
 pub mod Words
 pub mod WrittenLaws
-pub mod TellApart
 pub mod InWords

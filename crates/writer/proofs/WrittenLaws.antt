@@ -1,16 +1,16 @@
--- The answers of a writer, each with the buffer that it leaves: 27, and else those of put; 26, or the packet.
-use Prim.Native.Nat.{ℕ, ◌+◌, ◌*◌, ◌<◌, ◌≤◌}
-use mathlib.Core.Path.{◌≡◌, sym, ◌∙◌}
-use mathlib.Core.Bool.{true, false}
-use mathlib.Core.List.{List}
+-- How long a packet is, its two pieces, and what is written where there is room.
+use Prim.Native.Nat.{ℕ, ◌+◌, ◌*◌, ◌≤◌}
+use mathlib.Core.Path.{◌≡◌, refl, sym, ◌∙◌}
+use mathlib.Core.Bool.{false}
+use mathlib.Core.List.{List, ◌++◌}
 use native.Mathlib.Omega.{arith}
-use borrow.Author.Tests.{lt-ltb, le-ltb}
+use borrow.Author.Tests.{le-ltb}
 use lib.Dec.{ltb}
 use lib.ListN.{length, length-append}
-use Rattle.base.specs.Bytes.{overlaid}
+use Rattle.base.specs.Bytes.{bytes16, overlaid}
 use Rattle.base.proofs.Buffers.{overlaid_fits}
-use Rattle.packet.specs.Refusals.{accepted, refused}
-use Rattle.writer.specs.Writing.{rising_items, fewest_words, head_of, encode, writable, writer_refusals, write, buffered, put_refusals, put, after_put}
+use Rattle.packet.specs.Refusals.{accepted}
+use Rattle.writer.specs.Writing.{rising_items, fewest_words, words_of, kind_for, head_of, encode, put_refusals, put, after_put}
 use Rattle.packet.specs.declared.message.Message.{Message}
 use Rattle.writer.proofs.Words.{words_length}
 
@@ -18,29 +18,18 @@ pub encoded_length : (ext : ℕ) (m : Message) (sound : List ℕ) → length (en
 unfolding encode head_of
 encoded_length ext m sound = simp (length-append, words_length) (omega arith)
 
-module _ (ext : ℕ) (m : Message) (sound out : List ℕ) where
-  pub unwritable : writable m (length sound) ≡ false → (write ext m sound (length out) ≡ refused 27 0) × (buffered ext m sound out ≡ out)
-  unfolding write writer_refusals buffered
-  unwritable e = (simp e, simp e)
+-- the two pieces of a packet that the code lays one behind the other
+pub heads_and_content : (ext : ℕ) (m : Message) (sound : List ℕ)
+    → encode ext m sound
+    ≡ (head_of m (kind_for (length sound)) ++ bytes16 ext ++ bytes16 (fewest_words (rising_items m.items))) ++ (words_of m (rising_items m.items) ++ sound)
+unfolding encode head_of
+heads_and_content ext m sound = refl
 
-  pub writes_as_put : writable m (length sound) ≡ true
-      → (write ext m sound (length out) ≡ put ext m sound (length out)) × (buffered ext m sound out ≡ after_put ext m sound out)
-  unfolding write writer_refusals buffered put_refusals put after_put
-  writes_as_put fine = (simp fine, simp fine)
-
-  module _ (n : ℕ) (long : n ≡ 16 + 4 * fewest_words (rising_items m.items) + length sound) where
-    all : n ≡ length (encode ext m sound)
-    all = long ∙ sym (encoded_length ext m sound)
-
-    pub too_short : length out < n → (put ext m sound (length out) ≡ refused 26 0) × (after_put ext m sound out ≡ out)
-    unfolding put_refusals put after_put
-    too_short short =
-        let h : ltb (length out) (length (encode ext m sound)) ≡ true = lt-ltb _ _ (rw all at short) in
-        (simp h, simp h)
-
-    pub written : n ≤ length out → (put ext m sound (length out) ≡ accepted n) × (after_put ext m sound out ≡ overlaid (encode ext m sound) out)
-    unfolding put_refusals put after_put
-    written fits =
-        let room : length (encode ext m sound) ≤ length out = rw all at fits in
-        let h : ltb (length out) (length (encode ext m sound)) ≡ false = le-ltb _ _ room in
-        (simp (h, all), simp h (sym (overlaid_fits (encode ext m sound) out room)))
+pub written : (ext : ℕ) (m : Message) (sound out : List ℕ) (n : ℕ) → n ≡ 16 + 4 * fewest_words (rising_items m.items) + length sound → n ≤ length out
+    → (put ext m sound (length out) ≡ accepted n) × (after_put ext m sound out ≡ overlaid (encode ext m sound) out)
+unfolding put_refusals put after_put
+written ext m sound out n long fits =
+    let all : n ≡ length (encode ext m sound) = long ∙ sym (encoded_length ext m sound) in
+    let room : length (encode ext m sound) ≤ length out = rw all at fits in
+    let h : ltb (length out) (length (encode ext m sound)) ≡ false = le-ltb _ _ room in
+    (simp (h, all), simp h (sym (overlaid_fits (encode ext m sound) out room)))

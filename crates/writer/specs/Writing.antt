@@ -1,66 +1,28 @@
 -- 01: "Plain form: CC 0, items by rising type, the fewest words that hold them. Writers write only this."
-use Rattle.std.specs.Prelude.{ℕ, ◌+◌, ◌*◌, ◌-◌, ◌/◌, Bool, true, false, cond, not, ◌&&◌, ◌||◌, List, [], ◌∷◌, ◌++◌, length, drop, replicate, ltb, leb, eqb}
+use Rattle.std.specs.Prelude.{ℕ, ◌+◌, ◌*◌, ◌-◌, ◌/◌, Bool, true, cond, not, ◌&&◌, ◌||◌, List, [], ◌∷◌, ◌++◌, length, drop, replicate, ltb, leb, eqb, Option, None, Some}
 use Rattle.base.specs.Bytes.{bytes8, bytes16, bytes32, placed, bit}
 use Rattle.packet.specs.Packet.{audio_type, r2s_type, audio_length, ptt_allowed}
 use Rattle.packet.specs.Items.{Item, sqi_type, climax_type, side_type, some_item, sqi_allowed}
-use Rattle.packet.specs.Refusals.{Case, ◌if◌, Answer, accepted, refused, refusal, judged}
-use Rattle.packet.specs.declared.message.SqiItem.{SqiItem}
-use Rattle.packet.specs.declared.message.SqiItem.TheVariants as sqi
-use Rattle.packet.specs.declared.message.ClimaxItem.{ClimaxItem}
-use Rattle.packet.specs.declared.message.ClimaxItem.TheVariants as climax
-use Rattle.packet.specs.declared.message.SideItem.{SideItem}
-use Rattle.packet.specs.declared.message.SideItem.TheVariants as side
+use Rattle.packet.specs.Refusals.{Case, ◌if◌, Answer, accepted, refused, judged}
+use Rattle.packet.specs.declared.message.Sqi.{Sqi}
+use Rattle.packet.specs.declared.message.Side.{Side}
+use Rattle.packet.specs.declared.message.Side.TheVariants.{Main, Standby}
 use Rattle.packet.specs.declared.message.Items.{Items}
 use Rattle.packet.specs.declared.message.Message.{Message}
-use Rattle.packet.specs.declared.message.Tx.{Tx}
-use Rattle.packet.specs.declared.message.Rx.{Rx}
-use Rattle.writer.specs.declared.writing.Written.{Written}
-use Rattle.writer.specs.declared.writing.Written.TheVariants as written
-
--- A message of one direction, as one of either: what its packets cannot say is off or absent.
-abbrev pub from_tx : Tx → Message
-from_tx m =
-    record {
-      sequence = m.sequence;
-      timestamp = m.timestamp;
-      ssrc = m.ssrc;
-      ptt = m.ptt;
-      squ = false;
-      id = m.id;
-      pm = m.pm;
-      ptts = m.ptts;
-      sct = false;
-      items = record { sqi = sqi.Absent; climax = m.climax; side = m.side };
-    }
-
-abbrev pub from_rx : Rx → Message
-from_rx m =
-    record {
-      sequence = m.sequence;
-      timestamp = m.timestamp;
-      ssrc = m.ssrc;
-      ptt = m.ptt;
-      squ = m.squ;
-      id = m.id;
-      pm = m.pm;
-      ptts = m.ptts;
-      sct = m.sct;
-      items = record { sqi = m.sqi; climax = climax.Absent; side = m.side };
-    }
 
 -- The items of a message, "by rising type".
-abbrev pub sqi_listed : SqiItem → List Item
-sqi_listed sqi.Absent = []
-sqi_listed (sqi.Is quality method) = record { type = sqi_type; value = bytes8 (placed 8 0 5 quality + placed 8 5 3 method) } ∷ []
+abbrev pub sqi_listed : Option Sqi → List Item
+sqi_listed None = []
+sqi_listed (Some s) = record { type = sqi_type; value = bytes8 (placed 8 0 5 s.quality + placed 8 5 3 s.method) } ∷ []
 
-abbrev pub climax_listed : ClimaxItem → List Item
-climax_listed climax.Absent = []
-climax_listed (climax.Is delay) = record { type = climax_type; value = bytes8 (placed 8 0 1 1 + placed 8 1 7 delay) } ∷ []
+abbrev pub climax_listed : Option ℕ → List Item
+climax_listed None = []
+climax_listed (Some delay) = record { type = climax_type; value = bytes8 (placed 8 0 1 1 + placed 8 1 7 delay) } ∷ []
 
-abbrev pub side_listed : SideItem → List Item
-side_listed side.Absent = []
-side_listed side.Main = record { type = side_type; value = bytes8 (placed 8 0 1 0) } ∷ []
-side_listed side.Standby = record { type = side_type; value = bytes8 (placed 8 0 1 1) } ∷ []
+abbrev pub side_listed : Option Side → List Item
+side_listed None = []
+side_listed (Some Main) = record { type = side_type; value = bytes8 (placed 8 0 1 0) } ∷ []
+side_listed (Some Standby) = record { type = side_type; value = bytes8 (placed 8 0 1 1) } ∷ []
 
 unfoldable pub rising_items : Items → List Item
 rising_items k = sqi_listed k.sqi ++ climax_listed k.climax ++ side_listed k.side
@@ -98,13 +60,13 @@ encode ext m audio =
     head_of m (kind_for (length audio)) ++ bytes16 ext ++ bytes16 (fewest_words (rising_items m.items)) ++ words_of m (rising_items m.items) ++ audio
 
 -- 27: "writer given a value its reader would refuse". So also one that does not fit its bits, which no reader could see.
-abbrev pub sqi_writable : SqiItem → Bool
-sqi_writable sqi.Absent = true
-sqi_writable (sqi.Is quality method) = sqi_allowed quality method
+abbrev pub sqi_writable : Option Sqi → Bool
+sqi_writable None = true
+sqi_writable (Some s) = sqi_allowed s.quality s.method
 
-abbrev pub climax_writable : ClimaxItem → Bool
-climax_writable climax.Absent = true
-climax_writable (climax.Is delay) = leb delay 127
+abbrev pub climax_writable : Option ℕ → Bool
+climax_writable None = true
+climax_writable (Some delay) = leb delay 127
 
 abbrev pub audio_writable : (bytes : ℕ) → Bool
 audio_writable bytes = eqb bytes 0 || audio_length bytes
@@ -141,8 +103,3 @@ put ext m audio room = judged (put_refusals ext m audio room) (length (encode ex
 
 unfoldable pub after_put : (ext : ℕ) → Message → (audio buffer : List ℕ) → List ℕ
 after_put ext m audio buffer = filled (put ext m audio (length buffer)) (encode ext m audio) buffer
-
--- The answer of the code, as 01 writes it.
-abbrev pub written_answer : Written → Answer ℕ
-written_answer (written.Length n) = accepted n
-written_answer (written.Refused r) = refusal r

@@ -6,4 +6,4 @@
 mod plain;
 pub mod writing;
 
-pub use writing::{Written, put_rx, write_rx, write_tx};
+pub use writing::{put_rx, write_rx, write_tx};

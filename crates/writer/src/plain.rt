@@ -1,13 +1,13 @@
 // The plain form of a message: CC 0, items by rising type, the fewest words that hold them.
 // Its pieces are made as values and laid over the buffer as far as there is room, so that no function asks for room.
 ghost use Rattle.std.specs.Prelude.{◌≡◌, ◌++◌, ◌+◌, ◌%◌, length};
-ghost use Rattle.base.specs.Bytes.{byte_at, bytes16, placed, overlaid};
+ghost use Rattle.base.specs.Bytes.{bytes16, placed, overlaid};
 ghost use Rattle.packet.specs.Items.{some_item};
 ghost use Rattle.writer.specs.Pieces.{padded};
-ghost use Rattle.writer.specs.Writing.{rising_items, item_bytes, sqi_listed, climax_listed, side_listed, fewest_words, field_of, words_of, kind_for, head_of, encode};
+ghost use Rattle.writer.specs.Writing.{rising_items, item_bytes, side_listed, fewest_words, field_of, words_of, kind_for, head_of, encode};
 
-use base::{bit, copy_in, part};
-use packet::{ClimaxItem, Items, Message, SideItem, SqiItem};
+use base::copy_in;
+use packet::{Items, Message, Side, Sqi};
 
 // The first byte of the packet: version 2, padding 0, extension 1, CC 0.
 const FIRST: u8 = 144;
@@ -22,100 +22,69 @@ const CLIMAX: u8 = 33;
 const SIDE: u8 = 81;
 
 // The packet, over the front of the buffer.
+#[tactic(auto, using(crate::proofs::WrittenLaws::heads_and_content, base::proofs::Buffers::overlaid_then))]
 pub(crate) fn put_packet(ext: u16, m: Message, audio: &[u8], out: &mut [u8])
     ensures { out.new ≡ overlaid (encode ext m audio.now) out.old }
 {
-    let items = m.items;
-    let bytes = heads(ext, m, kind_for(audio.len()), fewest_words(items));
+    let bytes = heads(ext, m, kind_for(audio.len()), fewest_words(m.items));
     let put = copy_in(out, &bytes);
     put_content(m, audio, &mut out[put..]);
 }
 
 // The words and the audio, over the front of the buffer.
+#[tactic(auto, using(crate::proofs::Words::content))]
 fn put_content(m: Message, audio: &[u8], out: &mut [u8])
     ensures { out.new ≡ overlaid (words_of m (rising_items m.items) ++ audio.now) out.old }
 {
-    let items = m.items;
     let bytes = words(m);
-    let end = 4 * (fewest_words(items) as usize);
-    let put = copy_in(out, part(&bytes, 0, end));
+    let end = 4 * fewest_words(m.items) as usize;
+    let put = copy_in(out, &bytes[..end]);
     copy_in(&mut out[put..], audio);
 }
 
 // The RTP head and the extension's head.
-fn heads(ext: u16, m: Message, kind: u16, words: u32) -> [u8; 16]
+#[tactic(auto, unfolding(crate::specs::Writing::head_of))]
+fn heads(ext: u16, m: Message, kind: u8, words: u16) -> [u8; 16]
     ensures { result ≡ head_of m kind ++ bytes16 ext ++ bytes16 words }
 {
-    let sequence = m.sequence;
-    let timestamp = m.timestamp;
-    let ssrc = m.ssrc;
+    let [n0, n1] = m.sequence.to_be_bytes();
+    let [t0, t1, t2, t3] = m.timestamp.to_be_bytes();
+    let [s0, s1, s2, s3] = m.ssrc.to_be_bytes();
+    let [e0, e1] = ext.to_be_bytes();
+    let [w0, w1] = words.to_be_bytes();
     [
-        FIRST,
-        (kind % 256) as u8,
-        (sequence / 256 % 256) as u8,
-        (sequence % 256) as u8,
-        (timestamp / 65536 / 256 % 256) as u8,
-        (timestamp / 65536 % 256) as u8,
-        (timestamp / 256 % 256) as u8,
-        (timestamp % 256) as u8,
-        (ssrc / 65536 / 256 % 256) as u8,
-        (ssrc / 65536 % 256) as u8,
-        (ssrc / 256 % 256) as u8,
-        (ssrc % 256) as u8,
-        (ext / 256 % 256) as u8,
-        (ext % 256) as u8,
-        (words / 256 % 256) as u8,
-        (words % 256) as u8,
+        FIRST, kind, n0, n1, t0, t1, t2, t3, s0, s1, s2, s3, e0, e1, w0, w1,
     ]
 }
 
-fn kind_for(audio: usize) -> u16
+fn kind_for(audio: usize) -> u8
     ensures { result ≡ kind_for audio }
 {
     if audio == 0 { 123 } else { 8 }
 }
 
 // The words, and zeros up to the length of two.
+#[tactic(auto, using(crate::proofs::Words::words_are))]
 fn words(m: Message) -> [u8; 8]
     ensures { result ≡ padded 8 (words_of m (rising_items m.items)) }
 {
-    let items = m.items;
-    let sqi = items.sqi;
-    let climax = items.climax;
-    let side = items.side;
-    let f = field(m);
-    let high = (f / 256 % 256) as u8;
-    let low = (f % 256) as u8;
+    let [_, _, high, low] = field(m).to_be_bytes();
     // Main/standby has the highest type and comes last; absent, it leaves zeros.
-    let head = side_head(side);
-    let value = side_value(side);
-    match sqi {
-        SqiItem::Absent => match climax {
-            ClimaxItem::Absent => [high, low, head, value, 0, 0, 0, 0],
-            ClimaxItem::Is(delay) => [high, low, CLIMAX, climax_value(delay), head, value, 0, 0],
-        },
-        SqiItem::Is { quality, method } => match climax {
-            ClimaxItem::Absent => [
-                high,
-                low,
-                SQI,
-                sqi_value(quality, method),
-                head,
-                value,
-                0,
-                0,
-            ],
-            ClimaxItem::Is(delay) => [
-                high,
-                low,
-                SQI,
-                sqi_value(quality, method),
-                CLIMAX,
-                climax_value(delay),
-                head,
-                value,
-            ],
-        },
+    let [head, value] = side_item(m.items.side);
+    match (m.items.sqi, m.items.climax) {
+        (None, None) => [high, low, head, value, 0, 0, 0, 0],
+        (None, Some(delay)) => [high, low, CLIMAX, climax_value(delay), head, value, 0, 0],
+        (Some(sqi), None) => [high, low, SQI, sqi_value(sqi), head, value, 0, 0],
+        (Some(sqi), Some(delay)) => [
+            high,
+            low,
+            SQI,
+            sqi_value(sqi),
+            CLIMAX,
+            climax_value(delay),
+            head,
+            value,
+        ],
     }
 }
 
@@ -123,47 +92,36 @@ fn words(m: Message) -> [u8; 8]
 fn field(m: Message) -> u32
     ensures { result ≡ field_of m (rising_items m.items) }
 {
-    let items = m.items;
-    let x = some_item(items);
-    (m.ptt as u32) * 8192
-        + (bit(m.squ) as u32) * 4096
-        + (m.id as u32) * 64
-        + (bit(m.pm) as u32) * 32
-        + (bit(m.ptts) as u32) * 16
-        + (bit(m.sct) as u32) * 8
-        + (bit(x) as u32)
+    m.ptt as u32 * 8192
+        + m.squ as u32 * 4096
+        + m.id as u32 * 64
+        + m.pm as u32 * 32
+        + m.ptts as u32 * 16
+        + m.sct as u32 * 8
+        + some_item(m.items) as u32
 }
 
-fn sqi_value(quality: u8, method: u8) -> u8
-    ensures { result ≡ (placed 8 0 5 quality + placed 8 5 3 method) % 256 }
+fn sqi_value(sqi: Sqi) -> u8
+    ensures { result ≡ (placed 8 0 5 sqi.quality + placed 8 5 3 sqi.method) % 256 }
 {
-    (((quality as u16) * 8 + (method as u16)) % 256) as u8
+    sqi.quality.wrapping_mul(8).wrapping_add(sqi.method)
 }
 
 fn climax_value(delay: u8) -> u8
     ensures { result ≡ (placed 8 0 1 1 + placed 8 1 7 delay) % 256 }
 {
-    ((128 + (delay as u16)) % 256) as u8
+    delay.wrapping_add(128)
 }
 
-// The first byte of a main/standby item, and 0 where there is none.
-fn side_head(i: SideItem) -> u8
-    ensures { result ≡ byte_at (item_bytes (side_listed i)) 0 }
+// A main/standby item, and zeros where there is none.
+#[tactic(auto, unfolding(crate::specs::Writing::item_bytes))]
+fn side_item(side: Option<Side>) -> [u8; 2]
+    ensures { result ≡ padded 2 (item_bytes (side_listed side)) }
 {
-    match i {
-        SideItem::Absent => 0,
-        SideItem::Main => SIDE,
-        SideItem::Standby => SIDE,
-    }
-}
-
-fn side_value(i: SideItem) -> u8
-    ensures { result ≡ byte_at (item_bytes (side_listed i)) 1 }
-{
-    match i {
-        SideItem::Absent => 0,
-        SideItem::Main => 0,
-        SideItem::Standby => 128,
+    match side {
+        None => [0, 0],
+        Some(Side::Main) => [SIDE, 0],
+        Some(Side::Standby) => [SIDE, 128],
     }
 }
 
@@ -174,48 +132,16 @@ fn some_item(k: Items) -> bool
     item_count(k) != 0
 }
 
-pub(crate) fn fewest_words(k: Items) -> u32
+#[tactic(auto, using(crate::proofs::Words::rising_length, crate::proofs::Words::at_most_three))]
+pub(crate) fn fewest_words(k: Items) -> u16
     ensures { result ≡ fewest_words (rising_items k) }
 {
-    (2 + 2 * (item_count(k) as u32) + 3) / 4
+    (2 + 2 * item_count(k)).div_ceil(4)
 }
 
+#[tactic(auto, unfolding(crate::specs::Writing::rising_items))]
 fn item_count(k: Items) -> u16
     ensures { result ≡ length (rising_items k) }
 {
-    let sqi = k.sqi;
-    let climax = k.climax;
-    let side = k.side;
-    (sqi_count(sqi) as u16) + (climax_count(climax) as u16) + (side_count(side) as u16)
-}
-
-fn sqi_count(i: SqiItem) -> u8
-    ensures { result ≡ length (sqi_listed i) }
-{
-    match i {
-        SqiItem::Absent => 0,
-        SqiItem::Is {
-            quality: _,
-            method: _,
-        } => 1,
-    }
-}
-
-fn climax_count(i: ClimaxItem) -> u8
-    ensures { result ≡ length (climax_listed i) }
-{
-    match i {
-        ClimaxItem::Absent => 0,
-        ClimaxItem::Is(_) => 1,
-    }
-}
-
-fn side_count(i: SideItem) -> u8
-    ensures { result ≡ length (side_listed i) }
-{
-    match i {
-        SideItem::Absent => 0,
-        SideItem::Main => 1,
-        SideItem::Standby => 1,
-    }
+    k.sqi.is_some() as u16 + k.climax.is_some() as u16 + k.side.is_some() as u16
 }
