@@ -1,3 +1,2 @@
 pub mod PieceByPiece
 pub mod Passed
-pub mod TellApart

@@ -1,12 +1,10 @@
 -- What the reader's private steps answer: pieces of the one list of refusals in Reading.antt, cited by their promises alone.
 use Rattle.std.specs.Prelude.{ℕ, List, take, drop}
-use Rattle.packet.specs.Refusals.{Answer, accepted, refusal, judged}
+use Rattle.packet.specs.Refusals.{Answer, judged}
 use Rattle.reader.specs.Reading.{reader_refusals, message_of}
 use Rattle.packet.specs.declared.message.Direction.{Direction}
 use Rattle.packet.specs.declared.message.Direction.TheVariants.{Tx}
 use Rattle.packet.specs.declared.message.Message.{Message}
-use Rattle.reader.specs.declared.reading.AnyRead.{AnyRead}
-use Rattle.reader.specs.declared.reading.AnyRead.TheVariants as code
 
 -- 1 to 5, of the RTP head
 unfoldable pub head_verdict : List ℕ → Answer (Unit {0})
@@ -19,15 +17,3 @@ extension_verdict ext p = judged (take 4 (drop 5 (reader_refusals Tx ext p))) tt
 -- 10 to 12, of what the words hold and the payload behind them
 unfoldable pub content_answer : Direction → List ℕ → Answer Message
 content_answer d p = judged (drop 9 (reader_refusals d 0 p)) (message_of p)
-
--- 11 and 12, of the items and the payload
-unfoldable pub items_answer : Direction → List ℕ → Answer Message
-items_answer d p = judged (drop 10 (reader_refusals d 0 p)) (message_of p)
-
--- 12, of the payload
-unfoldable pub payload_answer : List ℕ → Answer Message
-payload_answer p = judged (drop 11 (reader_refusals Tx 0 p)) (message_of p)
-
-abbrev pub read_answer : AnyRead → Answer Message
-read_answer (code.Message m) = accepted m
-read_answer (code.Refused r) = refusal r

@@ -1,18 +1,15 @@
 -- 01: "Orders: readers 1 to 12." What the readers answer, for every list of bytes.
 use Rattle.std.specs.Prelude.{ℕ, not, ◌||◌, List, [], ◌∷◌, length, ltb, eqb}
 use Rattle.base.specs.Bytes.{is_set}
-use Rattle.packet.specs.Refusals.{Case, ◌if◌, Answer, accepted, refusal, judged, mapped}
+use Rattle.packet.specs.Refusals.{Case, ◌if◌, Answer, judged, mapped}
 use Rattle.packet.specs.Packet.{version, padding, marker, extension, payload_type, audio_type, r2s_type, head_length, sequence, timestamp, ssrc, words_at, extension_type, word_count, payload_at, payload, payload_allowed, field, field_allowed, ptt_type, squ, ptt_id, pm, ptts, sct, x, after_field}
+pub use Rattle.packet.specs.Messages.{as_tx, as_rx}
 use Rattle.packet.specs.Items.{Item, items_allowed, items_of, kept}
 use Rattle.packet.specs.declared.message.Direction.{Direction}
 use Rattle.packet.specs.declared.message.Direction.TheVariants as direction
 use Rattle.packet.specs.declared.message.Message.{Message}
 use Rattle.packet.specs.declared.message.Tx.{Tx}
 use Rattle.packet.specs.declared.message.Rx.{Rx}
-use Rattle.reader.specs.declared.reading.TxRead.{TxRead}
-use Rattle.reader.specs.declared.reading.TxRead.TheVariants as tx
-use Rattle.reader.specs.declared.reading.RxRead.{RxRead}
-use Rattle.reader.specs.declared.reading.RxRead.TheVariants as rx
 
 -- 01, What is turned away, 1 to 12.
 unfoldable pub reader_refusals : Direction → (ext : ℕ) → List ℕ → List Case
@@ -54,48 +51,8 @@ message_of p =
 unfoldable pub read : Direction → (ext : ℕ) → List ℕ → Answer Message
 read d ext p = judged (reader_refusals d ext p) (message_of p)
 
--- The message of one direction is what that direction's packets can say.
-abbrev pub as_tx : Message → Tx
-as_tx m =
-    record {
-      sequence = m.sequence;
-      timestamp = m.timestamp;
-      ssrc = m.ssrc;
-      ptt = m.ptt;
-      id = m.id;
-      pm = m.pm;
-      ptts = m.ptts;
-      climax = m.items.climax;
-      side = m.items.side;
-    }
-
-abbrev pub as_rx : Message → Rx
-as_rx m =
-    record {
-      sequence = m.sequence;
-      timestamp = m.timestamp;
-      ssrc = m.ssrc;
-      ptt = m.ptt;
-      squ = m.squ;
-      id = m.id;
-      pm = m.pm;
-      ptts = m.ptts;
-      sct = m.sct;
-      sqi = m.items.sqi;
-      side = m.items.side;
-    }
-
 unfoldable pub read_tx : (ext : ℕ) → List ℕ → Answer Tx
 read_tx ext p = mapped as_tx (read direction.Tx ext p)
 
 unfoldable pub read_rx : (ext : ℕ) → List ℕ → Answer Rx
 read_rx ext p = mapped as_rx (read direction.Rx ext p)
-
--- The answers of the code, as 01 writes them.
-abbrev pub tx_answer : TxRead → Answer Tx
-tx_answer (tx.Message m) = accepted m
-tx_answer (tx.Refused r) = refusal r
-
-abbrev pub rx_answer : RxRead → Answer Rx
-rx_answer (rx.Message m) = accepted m
-rx_answer (rx.Refused r) = refusal r

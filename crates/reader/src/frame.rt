@@ -1,39 +1,38 @@
 // The RTP head and the extension's head: refusals 1 to 9.
 ghost use Rattle.std.specs.Prelude.{◌≡◌};
 ghost use Rattle.packet.specs.Packet.{payload_type, extension_at, extension_type, word_count, words_at, payload_at, field};
+ghost use Rattle.packet.specs.Refusals.{answer_of};
 ghost use Rattle.reader.specs.Pieces.{head_verdict, extension_verdict};
-ghost use Rattle.packet.specs.Refusals.{verdict_of};
 
 use base::{byte_at, number16_at};
-use packet::{Refusal, Verdict};
+use packet::Refusal;
+
+// The payload types.
+pub(crate) const AUDIO: u8 = 8;
+
+const R2S: u8 = 123;
 
 // 1 to 5: the RTP head.
-pub(crate) fn head_verdict(p: &[u8]) -> Verdict
-    ensures { verdict_of result ≡ head_verdict p.now }
+#[tactic(auto, using(base::proofs::Tests::tests), unfolding(crate::specs::Pieces::head_verdict, crate::specs::Reading::reader_refusals))]
+pub(crate) fn head_verdict(p: &[u8]) -> Result<(), Refusal>
+    ensures { answer_of result ≡ head_verdict p.now }
 {
     if p.len() < 12 {
-        return Verdict::Refused(Refusal::TooShort);
+        return Err(Refusal::TooShort);
     }
-    let b0 = p[0];
-    let b1 = p[1];
-    let version = b0 / 64 % 4;
-    if version != 2 {
-        return Verdict::Refused(Refusal::WrongVersion);
+    let (b0, b1) = (p[0], p[1]);
+    if b0 / 64 != 2 {
+        return Err(Refusal::WrongVersion);
     }
-    let padding_or_marker = (b0 / 32 % 2 == 1) | (b1 / 128 % 2 == 1);
-    if padding_or_marker {
-        return Verdict::Refused(Refusal::PaddingOrMarker);
+    if b0 / 32 % 2 == 1 || b1 / 128 == 1 {
+        return Err(Refusal::PaddingOrMarker);
     }
-    let extension = b0 / 16 % 2;
-    if extension != 1 {
-        return Verdict::Refused(Refusal::NoExtension);
+    if b0 / 16 % 2 != 1 {
+        return Err(Refusal::NoExtension);
     }
-    let kind = b1 % 128;
-    let known = (kind == 8) | (kind == 123);
-    if known {
-        Verdict::Fine
-    } else {
-        Verdict::Refused(Refusal::PayloadType)
+    match b1 % 128 {
+        AUDIO | R2S => Ok(()),
+        _ => Err(Refusal::PayloadType),
     }
 }
 
@@ -48,8 +47,7 @@ pub(crate) fn payload_type(p: &[u8]) -> u8
 fn extension_at(p: &[u8]) -> u32
     ensures { result ≡ extension_at p.now }
 {
-    let count = byte_at(p, 0) % 16;
-    12 + 4 * (count as u32)
+    12 + 4 * u32::from(byte_at(p, 0) % 16)
 }
 
 fn extension_type(p: &[u8]) -> u16
@@ -74,7 +72,7 @@ pub(crate) fn words_at(p: &[u8]) -> u32
 pub(crate) fn payload_at(p: &[u8]) -> u32
     ensures { result ≡ payload_at p.now }
 {
-    words_at(p) + 4 * (word_count(p) as u32)
+    words_at(p) + 4 * u32::from(word_count(p))
 }
 
 // The first two bytes of the words.
@@ -85,25 +83,22 @@ pub(crate) fn field(p: &[u8]) -> u16
 }
 
 // 6 to 9: the extension's head, and its words.
-pub(crate) fn extension_verdict(ext: u16, p: &[u8]) -> Verdict
-    ensures { verdict_of result ≡ extension_verdict ext p.now }
+#[tactic(auto, using(base::proofs::Tests::tests), unfolding(crate::specs::Pieces::extension_verdict, crate::specs::Reading::reader_refusals))]
+pub(crate) fn extension_verdict(ext: u16, p: &[u8]) -> Result<(), Refusal>
+    ensures { answer_of result ≡ extension_verdict ext p.now }
 {
-    let words = words_at(p) as usize;
-    if p.len() < words {
-        return Verdict::Refused(Refusal::ExtensionCut);
+    if p.len() < words_at(p) as usize {
+        return Err(Refusal::ExtensionCut);
     }
-    let kind = extension_type(p);
-    if kind != ext {
-        return Verdict::Refused(Refusal::ExtensionType);
+    if extension_type(p) != ext {
+        return Err(Refusal::ExtensionType);
     }
     let count = word_count(p);
-    let barred = (count == 0) | (15 < count);
-    if barred {
-        return Verdict::Refused(Refusal::WordCount);
+    if count == 0 || 15 < count {
+        return Err(Refusal::WordCount);
     }
-    let end = words + 4 * (count as usize);
-    if p.len() < end {
-        return Verdict::Refused(Refusal::WordsCut);
+    if p.len() < payload_at(p) as usize {
+        return Err(Refusal::WordsCut);
     }
-    Verdict::Fine
+    Ok(())
 }

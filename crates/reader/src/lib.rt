@@ -6,4 +6,4 @@
 mod frame;
 pub mod reading;
 
-pub use reading::{RxRead, TxRead, payload, read_rx, read_tx};
+pub use reading::{payload, read_rx, read_tx};

@@ -1,185 +1,103 @@
 // The readers: refusals 1 to 12, and the message of an accepted packet.
 ghost use Rattle.std.specs.Prelude.{◌≡◌, min, length};
 ghost use Rattle.base.specs.Bytes.{LiesAt};
+ghost use Rattle.items.specs.ItemsIn.{items_read};
 ghost use Rattle.packet.specs.Items.{kept};
 ghost use Rattle.packet.specs.Packet.{field, x, after_field, payload, payload_at, payload_allowed, field_allowed};
-ghost use Rattle.reader.specs.Reading.{read, read_tx, read_rx, tx_answer, rx_answer, as_tx, as_rx, items_here, message_of};
-ghost use Rattle.reader.specs.Pieces.{read_answer, items_answer, payload_answer, content_answer};
-ghost use Rattle.items.specs.ItemsIn.{items_read};
+ghost use Rattle.packet.specs.Refusals.{answer_of};
+ghost use Rattle.reader.specs.Reading.{read, read_tx, read_rx, items_here, message_of};
+ghost use Rattle.reader.specs.Pieces.{content_answer};
 
-use crate::frame::{extension_verdict, field, head_verdict, payload_at, payload_type, words_at};
+use crate::frame::{
+    AUDIO, extension_verdict, field, head_verdict, payload_at, payload_type, words_at,
+};
 use base::{number16_at, number32_at, part};
-use items::{ItemsRead, items_in};
-use packet::{Direction, Items, Message, Refusal, Rx, Tx, Verdict, audio_length};
-
-// What a packet of the TX direction turned out to be.
-#[derive(Clone, Copy)]
-pub enum TxRead {
-    Message(Tx),
-    Refused(Refusal),
-}
-
-// What a packet of the RX direction turned out to be.
-#[derive(Clone, Copy)]
-pub enum RxRead {
-    Message(Rx),
-    Refused(Refusal),
-}
-
-// The same of either direction.
-#[derive(Clone, Copy)]
-enum AnyRead {
-    Message(Message),
-    Refused(Refusal),
-}
+use items::items_in;
+use packet::{Direction, Items, Message, Refusal, Rx, Tx, audio_length};
 
 // Reads a packet from a voice switch.
-pub fn read_tx(ext: u16, p: &[u8]) -> TxRead
-    ensures { tx_answer result ≡ read_tx ext p.now }
+#[tactic(auto, unfolding(crate::specs::Reading::read_tx))]
+pub fn read_tx(ext: u16, p: &[u8]) -> Result<Tx, Refusal>
+    ensures { answer_of result ≡ read_tx ext p.now }
 {
-    let told = read(Direction::Tx, ext, p);
-    match told {
-        AnyRead::Refused(r) => TxRead::Refused(r),
-        AnyRead::Message(m) => TxRead::Message(as_tx(m)),
-    }
+    read(Direction::Tx, ext, p).map(Tx::from)
 }
 
 // Reads a packet to a voice switch.
-pub fn read_rx(ext: u16, p: &[u8]) -> RxRead
-    ensures { rx_answer result ≡ read_rx ext p.now }
+#[tactic(auto, unfolding(crate::specs::Reading::read_rx))]
+pub fn read_rx(ext: u16, p: &[u8]) -> Result<Rx, Refusal>
+    ensures { answer_of result ≡ read_rx ext p.now }
 {
-    let told = read(Direction::Rx, ext, p);
-    match told {
-        AnyRead::Refused(r) => RxRead::Refused(r),
-        AnyRead::Message(m) => RxRead::Message(as_rx(m)),
-    }
+    read(Direction::Rx, ext, p).map(Rx::from)
 }
 
 // The payload, as a part of the lent packet: what lies behind the words, and an empty part where nothing does.
+#[tactic(auto, using(base::proofs::Parts::part_to_end), unfolding(packet::specs::Packet::payload))]
 pub fn payload(p: &[u8]) -> &[u8]
     ensures holds { result.now ≡ payload p.now }
     ensures lies { LiesAt p.entry (min (payload_at p.now) (length p.now)) result }
 {
-    part(p, payload_at(p) as usize, p.len())
-}
-
-fn as_tx(m: Message) -> Tx
-    ensures { result ≡ as_tx m }
-{
-    let items = m.items;
-    let climax = items.climax;
-    let side = items.side;
-    Tx {
-        sequence: m.sequence,
-        timestamp: m.timestamp,
-        ssrc: m.ssrc,
-        ptt: m.ptt,
-        id: m.id,
-        pm: m.pm,
-        ptts: m.ptts,
-        climax,
-        side,
-    }
-}
-
-fn as_rx(m: Message) -> Rx
-    ensures { result ≡ as_rx m }
-{
-    let items = m.items;
-    let sqi = items.sqi;
-    let side = items.side;
-    Rx {
-        sequence: m.sequence,
-        timestamp: m.timestamp,
-        ssrc: m.ssrc,
-        ptt: m.ptt,
-        squ: m.squ,
-        id: m.id,
-        pm: m.pm,
-        ptts: m.ptts,
-        sct: m.sct,
-        sqi,
-        side,
-    }
+    &p[p.len().min(payload_at(p) as usize)..]
 }
 
 // Refusals 1 to 12, in this order.
-fn read(d: Direction, ext: u16, p: &[u8]) -> AnyRead
-    ensures { read_answer result ≡ read d ext p.now }
+#[tactic(auto, using(crate::proofs::PieceByPiece::read_in_steps))]
+fn read(d: Direction, ext: u16, p: &[u8]) -> Result<Message, Refusal>
+    ensures { answer_of result ≡ read d ext p.now }
 {
-    let head = head_verdict(p);
-    match head {
-        Verdict::Refused(r) => AnyRead::Refused(r),
-        Verdict::Fine => {
-            let extension = extension_verdict(ext, p);
-            match extension {
-                Verdict::Refused(r) => AnyRead::Refused(r),
-                Verdict::Fine => content(d, p),
-            }
-        }
-    }
+    head_verdict(p)?;
+    extension_verdict(ext, p)?;
+    content(d, p)
 }
 
 // 10 to 12, of a packet whose words are all there.
-fn content(d: Direction, p: &[u8]) -> AnyRead
-    ensures { read_answer result ≡ content_answer d p.now }
+#[tactic(auto, unfolding(crate::specs::Pieces::content_answer, crate::specs::Reading::reader_refusals, crate::specs::Reading::items_here, items::specs::ItemsIn::items_read))]
+fn content(d: Direction, p: &[u8]) -> Result<Message, Refusal>
+    ensures { answer_of result ≡ content_answer d p.now }
 {
-    let f = field(p);
-    let allowed = field_allowed(d, f);
-    if allowed {
-        let words = words_at(p) as usize;
-        let rest = part(p, words + 2, payload_at(p) as usize);
-        with_items(d, p, items_in(d, f % 2, rest))
-    } else {
-        AnyRead::Refused(Refusal::FieldRule)
+    if !field_allowed(d, field(p)) {
+        return Err(Refusal::FieldRule);
     }
+    let items = items_here(d, p).ok_or(Refusal::ItemRule)?;
+    if !payload_allowed(payload_type(p), payload(p).len()) {
+        return Err(Refusal::PayloadLength);
+    }
+    Ok(message(p, items))
+}
+
+// What the bytes after the first two of the words hold.
+#[tactic(auto, unfolding(packet::specs::Packet::after_field))]
+fn items_here(d: Direction, p: &[u8]) -> Option<Items>
+    ensures { result ≡ items_read d (x (field p.now)) (after_field p.now) }
+{
+    let rest = part(p, words_at(p) as usize + 2, payload_at(p) as usize);
+    items_in(d, field(p) % 2, rest)
 }
 
 // The rules of the first two bytes of the words.
+#[tactic(auto, unfolding(packet::specs::Packet::field_allowed))]
 fn field_allowed(d: Direction, f: u16) -> bool
     ensures { result ≡ field_allowed d f }
 {
-    let known = f / 8192 % 8 <= 5;
+    let known = f / 8192 <= 5;
     match d {
-        Direction::Tx => known & (f / 4096 % 2 == 0) & (f / 2 % 8 == 0),
-        Direction::Rx => known & (f / 2 % 4 == 0),
+        Direction::Tx => known && f / 4096 % 2 == 0 && f / 2 % 8 == 0,
+        Direction::Rx => known && f / 2 % 4 == 0,
     }
 }
 
-// 11 and 12, with what the bytes after the first two were found to be.
-fn with_items(d: Direction, p: &[u8], found: ItemsRead) -> AnyRead
-    requires { found ≡ items_read d (x (field p.now)) (after_field p.now) }
-    ensures { read_answer result ≡ items_answer d p.now }
-{
-    match found {
-        ItemsRead::Broken => AnyRead::Refused(Refusal::ItemRule),
-        ItemsRead::Items(items) => with_payload(p, items),
-    }
-}
-
-// 12, with the packet's items.
-fn with_payload(p: &[u8], items: Items) -> AnyRead
-    requires { items ≡ kept (items_here p.now) }
-    ensures { read_answer result ≡ payload_answer p.now }
-{
-    let payload_length = payload(p).len();
-    let allowed = payload_allowed(payload_type(p), payload_length);
-    if allowed {
-        AnyRead::Message(message(p, items))
-    } else {
-        AnyRead::Refused(Refusal::PayloadLength)
-    }
-}
-
+#[tactic(auto, unfolding(packet::specs::Packet::payload_allowed))]
 fn payload_allowed(kind: u8, n: usize) -> bool
     ensures { result ≡ payload_allowed kind n }
 {
-    if kind == 8 {
-        return audio_length(n);
+    if kind == AUDIO {
+        audio_length(n)
+    } else {
+        n == 0
     }
-    n == 0
 }
 
+#[tactic(auto, unfolding(crate::specs::Reading::message_of))]
 fn message(p: &[u8], items: Items) -> Message
     requires { items ≡ kept (items_here p.now) }
     ensures { result ≡ message_of p.now }
@@ -189,7 +107,7 @@ fn message(p: &[u8], items: Items) -> Message
         sequence: number16_at(p, 2),
         timestamp: number32_at(p, 4),
         ssrc: number32_at(p, 8),
-        ptt: (f / 8192 % 8) as u8,
+        ptt: (f / 8192) as u8,
         squ: f / 4096 % 2 == 1,
         id: (f / 64 % 64) as u8,
         pm: f / 32 % 2 == 1,
