@@ -1,5 +1,4 @@
-pub mod Lines
 pub mod Choices
+pub mod Lines
 pub mod Values
-pub mod Signs
 pub mod Nibbles

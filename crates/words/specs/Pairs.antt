@@ -1,14 +1,12 @@
 -- Bytes in words, in hexadecimal; `-` says no bytes.
-use Rattle.std.specs.Prelude.{ℕ, ◌+◌, ◌*◌, ◌/◌, ◌%◌, ◌≡◌, refl, Bool, cond, not, ◌&&◌, ◌||◌, List, [], ◌∷◌, leb, eqb, length}
+use Rattle.std.specs.Prelude.{ℕ, ◌+◌, ◌*◌, ◌/◌, ◌%◌, ◌≡◌, refl, Bool, cond, not, ◌&&◌, ◌||◌, List, [], ◌∷◌, leb, eqb, length, Option, Some, None}
+use Rattle.std.specs.Str.{bytes_eq}
 use Rattle.std.proofs.lemmas.List.Edits.{sets}
 use Rattle.base.specs.Text.{text}
-use Rattle.words.specs.Input.{same}
 use Rattle.words.specs.Numbers.{digit_of, all_digits}
-use Rattle.words.specs.declared.pairs.BytesRead.{BytesRead}
-use Rattle.words.specs.declared.pairs.BytesRead.TheVariants as bytes
 
 unfoldable pub is_dash : List ℕ → Bool
-is_dash w = same w (text "-")
+is_dash w = bytes_eq w (text "-")
 
 -- Two digits a byte, the high one first.
 unfoldable pub pairs : List ℕ → List ℕ
@@ -26,13 +24,13 @@ says_bytes w room = is_dash w || (leb (length w / 2) room && is_hex w)
 unfoldable pub bytes_of : List ℕ → List ℕ
 bytes_of w = cond (is_dash w) [] (pairs w)
 
-unfoldable pub bytes_said : List ℕ → (room : ℕ) → BytesRead
-bytes_said w room = cond (says_bytes w room) (bytes.Are (length (bytes_of w))) bytes.Not
+unfoldable pub bytes_said : List ℕ → (room : ℕ) → Option ℕ
+bytes_said w room = cond (says_bytes w room) (Some (length (bytes_of w))) None
 
 -- The buffer afterwards: the bytes in front and every byte behind them as it was; else every byte as it was.
 unfoldable pub bytes_laid : List ℕ → (buffer : List ℕ) → List ℕ
 bytes_laid w buffer = cond (says_bytes w (length buffer)) (sets buffer 0 (bytes_of w)) buffer
 
 either_case : bytes_laid (text "907b") (0 ∷ 0 ∷ 7 ∷ []) ≡ 144 ∷ 123 ∷ 7 ∷ []
-unfolding bytes_laid says_bytes is_dash same is_hex all_digits bytes_of pairs digit_of
+unfolding bytes_laid says_bytes is_dash is_hex all_digits bytes_of pairs digit_of
 either_case = refl

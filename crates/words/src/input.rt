@@ -1,7 +1,7 @@
 // Text in: the words of a line. A line may be any bytes.
-ghost use Rattle.std.specs.Prelude.{◌≡◌};
+ghost use Rattle.std.specs.Prelude.{◌≡◌, ◌≤◌, ℕ, Bool, length};
 ghost use Rattle.base.specs.Bytes.{LiesAt};
-ghost use Rattle.words.specs.Input.{is_blank, in_word, past, word_at, word_of, last_of, same, choice_of, place_of};
+ghost use Rattle.words.specs.Input.{is_blank, in_word, past, word_at, word_of, last_of, is_word, choice_of, place_of};
 
 use base::part;
 
@@ -9,144 +9,97 @@ use base::part;
 fn blank(b: u8) -> bool
     ensures { result ≡ is_blank b }
 {
-    if b == b' ' {
-        return true;
-    }
-    if b == b'\t' {
-        return true;
-    }
-    b == b'\r'
+    b == b' ' || b == b'\t' || b == b'\r'
 }
 
-// Neither a blank nor the beginning of a comment.
+// Neither a blank nor the beginning of a comment. Most bytes of a line are decided by the first test.
 fn in_word(b: u8) -> bool
     ensures { result ≡ in_word b }
 {
-    // Most bytes of a line are decided here.
-    if b'#' < b {
-        return true;
-    }
-    if b == b'#' {
-        return false;
-    }
-    !blank(b)
+    b'#' < b || !(b == b'#' || blank(b))
 }
 
-fn past_blanks(s: &[u8], at: usize) -> usize
-    ensures { result ≡ past is_blank s.now at }
+// The place behind the bytes that pass, from a place on.
+fn past<F: Fn(u8) -> bool>(s: &[u8], at: usize, passes: F) -> usize
+    requires { F.IsAlwaysCallable passes }
+    ensures place { (p : ℕ → Bool) → ((b : ℕ) (r : Bool) → F.post passes b r → r ≡ p b) → result ≡ past p s.now at }
+    ensures within { (at ≤ result) × (at ≤ length s.now → result ≤ length s.now) }
 {
-    let mut i = at;
-    while i < s.len() {
-        let passed = blank(s[i]);
-        if passed {
-            i += 1;
-        } else {
-            return i;
+    let mut end = at;
+    for b in part(s, at, s.len()) {
+        if !passes(*b) {
+            return end;
         }
+        end += 1;
     }
-    i
-}
-
-fn past_word(s: &[u8], at: usize) -> usize
-    ensures { result ≡ past in_word s.now at }
-{
-    let mut i = at;
-    while i < s.len() {
-        let passed = in_word(s[i]);
-        if passed {
-            i += 1;
-        } else {
-            return i;
-        }
-    }
-    i
+    end
 }
 
 // Where word n begins, counted from 0; where there are fewer words, the end of the last or the comment.
+#[tactic(auto, unfolding(crate::specs::Input::word_at))]
 fn word_at(s: &[u8], n: usize) -> usize
-    ensures { result ≡ word_at s.now n }
+    ensures place { result ≡ word_at s.now n }
+    ensures within { result ≤ length s.now }
 {
-    let mut at = past_blanks(s, 0);
-    let mut i = 0;
-    while i < n {
-        at = past_blanks(s, past_word(s, at));
-        i += 1;
+    let mut at = past(s, 0, blank);
+    for _ in 0..n {
+        at = past(s, past(s, at, in_word), blank);
     }
     at
 }
 
 // Word n of a line, counted from 0; empty where there are fewer.
+#[tactic(auto, unfolding(crate::specs::Input::word_of))]
 pub fn word(s: &[u8], n: usize) -> &[u8]
     ensures holds { result.now ≡ word_of s.now n }
     ensures lies { LiesAt s.entry (word_at s.now n) result }
 {
     let at = word_at(s, n);
-    part(s, at, past_word(s, at))
+    part(s, at, past(s, at, in_word))
 }
 
 // Word n where it is the last of the line; empty where there are fewer words, or more.
+#[tactic(auto, using(crate::proofs::Lines::following), unfolding(crate::specs::Input::last_of, crate::specs::Input::word_of, crate::specs::Input::word_at))]
 pub fn last(s: &[u8], n: usize) -> &[u8]
     ensures holds { result.now ≡ last_of s.now n }
     ensures lies { LiesAt s.entry (word_at s.now n) result }
 {
     let at = word_at(s, n);
-    let end = past_word(s, at);
-    let next = past_blanks(s, end);
-    if past_word(s, next) == next {
+    let end = past(s, at, in_word);
+    let next = past(s, end, blank);
+    if past(s, next, in_word) == next {
         part(s, at, end)
     } else {
         part(s, at, at)
     }
 }
 
-fn same(a: &[u8], b: &[u8]) -> bool
-    ensures { result ≡ same a.now b.now }
+// A word that is there, and is the same.
+fn is_word(w: &[u8], s: &[u8]) -> bool
+    ensures { result ≡ is_word w.now s.now }
 {
-    if a.len() != b.len() {
-        return false;
-    }
-    let mut i = 0;
-    while i < a.len() {
-        if a[i] != b[i] {
-            return false;
-        }
-        i += 1;
-    }
-    true
+    !s.is_empty() && w == s
 }
 
-// The place of a word among the words of a list, counted from 0; where it is none of them, the length of the list.
-pub fn choice(w: &[u8], list: &[u8]) -> usize
+// The place of a word among the words of a list, counted from 0.
+#[tactic(auto, using(crate::proofs::Choices::choosing), unfolding(crate::specs::Input::choice_of, crate::specs::Input::word_at, crate::specs::Input::word_of))]
+pub fn choice(w: &[u8], list: &[u8]) -> Option<usize>
     ensures { result ≡ choice_of w.now list.now }
 {
-    let mut at = past_blanks(list, 0);
-    let mut n = 0;
-    while n < list.len() {
-        let end = past_word(list, at);
-        // Where one word is missing, none follows.
-        if end == at {
-            return list.len();
+    let mut at = past(list, 0, blank);
+    for n in 0..list.len() {
+        let end = past(list, at, in_word);
+        if is_word(w, part(list, at, end)) {
+            return Some(n);
         }
-        let found = same(w, part(list, at, end));
-        if found {
-            return n;
-        }
-        at = past_blanks(list, end);
-        n += 1;
+        at = past(list, end, blank);
     }
-    n
+    None
 }
 
-// The first place of a byte, and the length where it is not there.
-pub fn place_of(w: &[u8], b: u8) -> usize
+// The first place of a byte.
+pub fn place_of(w: &[u8], b: u8) -> Option<usize>
     ensures { result ≡ place_of b w.now }
 {
-    let mut i = 0;
-    while i < w.len() {
-        if w[i] == b {
-            return i;
-        }
-        i += 1;
-    }
-    i
+    w.iter().position(|x| *x == b)
 }

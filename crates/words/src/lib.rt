@@ -7,5 +7,5 @@ pub mod numbers;
 pub mod pairs;
 
 pub use input::{choice, last, place_of, word};
-pub use numbers::{ByteRead, HalfRead, LevelRead, NumberRead, byte, half, hex_half, level, number};
-pub use pairs::{BytesRead, bytes, dash};
+pub use numbers::{byte, half, hex_half, level, number};
+pub use pairs::{bytes, dash};
