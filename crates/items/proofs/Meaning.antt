@@ -1,12 +1,12 @@
 -- The scan, byte by byte, finds the items as 01 says them, from the first byte and under either X.
 use Prim.Native.Nat.{ℕ}
-use mathlib.Core.Path.{◌≡◌, refl, ap, sym, ◌∙◌, subst}
+use mathlib.Core.Path.{◌≡◌, refl, ◌∙◌}
 use mathlib.Core.Bool.{Bool, true, false, cond}
 use mathlib.Core.List.{List, [], ◌∷◌}
+use native.Mathlib.Omega.{arith}
 use lib.Dec.{eqb}
 use Rattle.std.specs.Prelude.{None, Some}
 use lib.ListN.{take}
-use Rattle.base.proofs.Truths.{push, either_way}
 use borrow.Author.Tests.{eqb-true}
 use Rattle.packet.specs.Items.{Item, Found, found, broken, behind, all_zero, item_type, item_length, items_behind, items_in, some_item, run_allowed, items_allowed, items_of, listed, sqi_among, climax_among, side_among, kept}
 use Rattle.items.specs.Scan.{scan_at, take_item, begun, met, scan_of, no_items, start_in, end_of}
@@ -36,7 +36,7 @@ outcome_is d broken e = refl
 
 zero_run : (d : Direction) (bs : List ℕ) → run_allowed d (items_in (0 ∷ bs)) ≡ false
 unfolding items_behind run_allowed
-zero_run d bs = push (run_allowed d) (all_zero bs) (found []) broken ∙ either_way (all_zero bs) false
+zero_run d bs = grind arith
 
 first_is : (d : Direction) (bs : List ℕ)
     → led d (scan_at First false no_items) bs ≡ cond (run_allowed d (items_in bs)) (Some (kept (listed (items_in bs)))) None
@@ -50,15 +50,8 @@ first_is d (b ∷ bs) = by_zero (eqb b 0) refl
 
     by_zero : (t : Bool) → eqb b 0 ≡ t
         → led d (scan_at (begun false b) (met false b) no_items) bs ≡ cond (run_allowed d (items_in (b ∷ bs))) (Some (kept (listed (items_in (b ∷ bs))))) None
-    by_zero true e =
-        subst (λ (c : ℕ). led d (scan_at (begun false c) (met false c) no_items) bs
-        ≡ cond (run_allowed d (items_in (c ∷ bs))) (Some (kept (listed (items_in (c ∷ bs))))) None)
-        (sym (eqb-true b 0 e))
-        (zero_breaks bs ∙ ap (λ (t : Bool). cond t (Some (kept (listed (items_in (0 ∷ bs))))) None) (sym (zero_run d bs)))
-    by_zero false e =
-        ap (λ (t : Bool). led d (scan_at (cond t Tail (begun false b)) (met false b) no_items) bs) (sym e)
-        ∙ scan_finds d (b ∷ bs) 0 false no_items
-        ∙ outcome_is d (items_in (b ∷ bs)) (starts b bs e)
+    by_zero true e = grind (arith, eqb-true b 0 e, zero_breaks bs)
+    by_zero false e = grind (arith, scan_finds d (b ∷ bs) 0 false no_items, outcome_is d (items_in (b ∷ bs)) (starts b bs e))
 
 -- the scan's answer is 01's
 pub scan_is : (d : Direction) (x : ℕ) (bytes : List ℕ) → end_of (scan_of d (scan_at (start_in x) false no_items) bytes) ≡ items_read d x bytes
