@@ -2,50 +2,35 @@
 // bytes, most significant first; a packet that the end of the input cuts is judged as far as it goes.
 #![tactic(auto)]
 
-ghost use Rattle.std.specs.Prelude.{◌≡◌, ◌≤◌, length, IfOk};
-
+use base::part;
 use std::io::{self, Read};
 
-// Reads until the buffer is full or the input ends, and answers how many bytes have come.
-fn read_full(input: &mut impl Read, buffer: &mut [u8]) -> io::Result<usize>
-    ensures { IfOk result (λ n. n ≤ length buffer.old) }
-{
-    let mut n = 0;
-    // Each turn but the last brings a byte.
-    for _ in 0..buffer.len() {
-        let got = input.read(&mut buffer[n..])?;
-        if got == 0 {
-            break;
-        }
-        n += got;
+// The next packet, read into the buffer; none at the end of the input.
+fn next<'a>(input: &mut impl Read, buffer: &'a mut [u8]) -> io::Result<Option<&'a [u8]>> {
+    let mut head = [0u8; 2];
+    if io::copy(&mut input.by_ref().take(2), &mut &mut head[..])? < 2 {
+        return Ok(None);
     }
-    Ok(n)
+    let size = u16::from_be_bytes(head);
+    let n = io::copy(&mut input.by_ref().take(size as u64), &mut &mut buffer[..])?;
+    Ok(Some(part(buffer, 0, n as usize)))
 }
 
-// Answers false at the end of the input.
-fn turn(rt: &impl Print, input: &mut impl Read, packet: &mut [u8]) -> io::Result<bool>
-    requires { 65536 ≡ length packet.old }
-{
-    let mut head = [0u8; 2];
-    if read_full(input, &mut head)? < 2 {
-        return Ok(false);
-    }
-    let size = base::join8(head[0], head[1]) as usize;
-    let n = read_full(input, &mut packet[0..size])?;
+fn print(rt: &impl Print, packet: &[u8]) -> io::Result<()> {
     let mut line = [0u8; 128];
-    let end = show::decode(&mut line, 0x0167, &packet[0..n]);
-    rt.write_all(&line[0..end])?;
-    Ok(true)
+    let end = show::decode(&mut line, 0x0167, packet);
+    rt.write_all(&line[..end])
 }
 
 fn main(rt: HostRuntime) -> io::Result<()> {
     let mut input = rt.reader();
-    let mut packet = [0u8; 65536];
+    let mut buffer = [0u8; 65536];
     // More turns than an input has packets: they show that the loop ends.
     for _ in 0..u64::MAX {
-        if !turn(&rt, &mut input, &mut packet)? {
+        let Some(packet) = next(&mut input, &mut buffer)? else {
             break;
-        }
+        };
+        print(&rt, packet)?;
     }
     Ok(())
 }

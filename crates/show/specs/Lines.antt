@@ -1,16 +1,13 @@
 -- 01: "A program reads one TX packet from standard input .. and prints one line." The lines, as bytes.
-use Rattle.std.specs.Prelude.{ℕ, ◌≡◌, refl, false, cond, List, ◌++◌, eqb, length}
+use Rattle.std.specs.Prelude.{ℕ, ◌≡◌, refl, false, cond, List, ◌++◌, eqb, length, Option, Some, None}
 use Rattle.base.specs.Text.{text}
 use Rattle.text.specs.Text.{digits, decimal, bit_text}
 use Rattle.packet.specs.Packet.{payload}
 use Rattle.packet.specs.Refusals.{Answer, accepted, refused}
 use Rattle.reader.specs.Reading.{read_tx}
-use Rattle.packet.specs.declared.message.ClimaxItem.{ClimaxItem}
-use Rattle.packet.specs.declared.message.ClimaxItem.TheVariants as climax
-use Rattle.packet.specs.declared.message.SideItem.{SideItem}
-use Rattle.packet.specs.declared.message.SideItem.TheVariants as side-item
-use Rattle.packet.specs.declared.message.SqiItem.{SqiItem}
-use Rattle.packet.specs.declared.message.SqiItem.TheVariants as sqi
+use Rattle.packet.specs.declared.message.Sqi.{Sqi}
+use Rattle.packet.specs.declared.message.Side.{Side}
+use Rattle.packet.specs.declared.message.Side.TheVariants.{Main, Standby}
 use Rattle.packet.specs.declared.message.Tx.{Tx}
 use Rattle.packet.specs.declared.message.Rx.{Rx}
 
@@ -29,14 +26,14 @@ head_text name q t s n ptt =
     ++ (text " ptt=" ++ decimal ptt)
 
 -- "cld is the 7-bit delay value, mss 0 or 1, `-` an absent item"
-abbrev pub climax_text : ClimaxItem → List ℕ
-climax_text climax.Absent = text " cld=-"
-climax_text (climax.Is value) = text " cld=" ++ decimal value
+abbrev pub climax_text : Option ℕ → List ℕ
+climax_text None = text " cld=-"
+climax_text (Some value) = text " cld=" ++ decimal value
 
-abbrev pub side_text : SideItem → List ℕ
-side_text side-item.Absent = text " mss=-"
-side_text side-item.Main = text " mss=0"
-side_text side-item.Standby = text " mss=1"
+abbrev pub side_text : Option Side → List ℕ
+side_text None = text " mss=-"
+side_text (Some Main) = text " mss=0"
+side_text (Some Standby) = text " mss=1"
 
 -- "`TX seq=1 ts=0 ssrc=7 kind=R2S ptt=1 id=2 pm=0 ptts=0 cld=- mss=- audio=0`"; "audio is the payload length"
 unfoldable pub tx_line : Tx → (audio : ℕ) → List ℕ
@@ -49,15 +46,15 @@ tx_line m n =
     ++ side_text m.side
     ++ (text " audio=" ++ decimal n)
 
-shown : tx_line (record { sequence = 1; timestamp = 0; ssrc = 7; ptt = 1; id = 2; pm = false; ptts = false; climax = climax.Absent; side = side-item.Absent }) 0
+shown : tx_line (record { sequence = 1; timestamp = 0; ssrc = 7; ptt = 1; id = 2; pm = false; ptts = false; climax = None; side = None }) 0
     ≡ text "TX seq=1 ts=0 ssrc=7 kind=R2S ptt=1 id=2 pm=0 ptts=0 cld=- mss=- audio=0"
 unfolding tx_line decimal digits
 shown = refl
 
 -- The line of a packet in the other direction, made alike; the quality stands before its method.
-abbrev pub sqi_text : SqiItem → List ℕ
-sqi_text sqi.Absent = text " sqi=-"
-sqi_text (sqi.Is value method) = (text " sqi=" ++ decimal value) ++ (text "/" ++ decimal method)
+abbrev pub sqi_text : Option Sqi → List ℕ
+sqi_text None = text " sqi=-"
+sqi_text (Some sqi) = (text " sqi=" ++ decimal sqi.quality) ++ (text "/" ++ decimal sqi.method)
 
 unfoldable pub rx_line : Rx → (audio : ℕ) → List ℕ
 rx_line m n =

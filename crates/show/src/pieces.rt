@@ -1,23 +1,17 @@
 // The pieces of a line. Each returns the place after what it writes.
 ghost use Rattle.std.specs.Prelude.{◌++◌};
-ghost use Rattle.text.specs.Text.{Written, decimal, bit_text};
+ghost use Rattle.text.specs.Text.{Written, decimal};
 ghost use Rattle.show.specs.Lines.{kind_text, head_text, sqi_text, climax_text, side_text};
 
-use packet::{ClimaxItem, SideItem, SqiItem};
-use text::{put, put_bit, put_number};
+use packet::{Side, Sqi};
+use text::{put, put_number};
 
-pub(crate) fn named_number(out: &mut [u8], at: usize, name: &[u8], n: u64) -> usize
+// A truth counts as 1 or 0.
+pub(crate) fn named(out: &mut [u8], at: usize, name: &[u8], n: u64) -> usize
     ensures { Written out.old out.new at result (name.now ++ decimal n) }
 {
     let next = put(out, at, name);
     put_number(out, next, n)
-}
-
-pub(crate) fn named_bit(out: &mut [u8], at: usize, name: &[u8], b: bool) -> usize
-    ensures { Written out.old out.new at result (name.now ++ bit_text b) }
-{
-    let next = put(out, at, name);
-    put_bit(out, next, b)
 }
 
 fn put_kind(out: &mut [u8], at: usize, audio: usize) -> usize
@@ -43,40 +37,40 @@ pub(crate) fn put_head(
     ensures { Written out.old out.new 0 result (head_text name.now sequence timestamp ssrc audio ptt) }
 {
     let at = put(out, 0, name);
-    let at = named_number(out, at, b" seq=", sequence as u64);
-    let at = named_number(out, at, b" ts=", timestamp as u64);
-    let at = named_number(out, at, b" ssrc=", ssrc as u64);
+    let at = named(out, at, b" seq=", sequence as u64);
+    let at = named(out, at, b" ts=", timestamp as u64);
+    let at = named(out, at, b" ssrc=", ssrc as u64);
     let at = put_kind(out, at, audio);
-    named_number(out, at, b" ptt=", ptt as u64)
+    named(out, at, b" ptt=", ptt as u64)
 }
 
-pub(crate) fn put_sqi(out: &mut [u8], at: usize, item: SqiItem) -> usize
+pub(crate) fn put_sqi(out: &mut [u8], at: usize, item: Option<Sqi>) -> usize
     ensures { Written out.old out.new at result (sqi_text item) }
 {
     match item {
-        SqiItem::Absent => put(out, at, b" sqi=-"),
-        SqiItem::Is { quality, method } => {
-            let next = named_number(out, at, b" sqi=", quality as u64);
-            named_number(out, next, b"/", method as u64)
+        None => put(out, at, b" sqi=-"),
+        Some(sqi) => {
+            let next = named(out, at, b" sqi=", sqi.quality as u64);
+            named(out, next, b"/", sqi.method as u64)
         }
     }
 }
 
-pub(crate) fn put_climax(out: &mut [u8], at: usize, item: ClimaxItem) -> usize
+pub(crate) fn put_climax(out: &mut [u8], at: usize, item: Option<u8>) -> usize
     ensures { Written out.old out.new at result (climax_text item) }
 {
     match item {
-        ClimaxItem::Absent => put(out, at, b" cld=-"),
-        ClimaxItem::Is(value) => named_number(out, at, b" cld=", value as u64),
+        None => put(out, at, b" cld=-"),
+        Some(value) => named(out, at, b" cld=", value as u64),
     }
 }
 
-pub(crate) fn put_side(out: &mut [u8], at: usize, item: SideItem) -> usize
+pub(crate) fn put_side(out: &mut [u8], at: usize, item: Option<Side>) -> usize
     ensures { Written out.old out.new at result (side_text item) }
 {
     match item {
-        SideItem::Absent => put(out, at, b" mss=-"),
-        SideItem::Main => put(out, at, b" mss=0"),
-        SideItem::Standby => put(out, at, b" mss=1"),
+        None => put(out, at, b" mss=-"),
+        Some(Side::Main) => put(out, at, b" mss=0"),
+        Some(Side::Standby) => put(out, at, b" mss=1"),
     }
 }

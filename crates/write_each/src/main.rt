@@ -2,43 +2,23 @@
 // whole lent buffer, so that the bytes behind the packet are seen too. A record that the end of the input cuts is left out.
 #![tactic(auto)]
 
-ghost use Rattle.std.specs.Prelude.{◌≡◌, ◌≤◌, length, IfOk};
-
 mod line;
 mod record;
 
 use crate::line::put_line;
-use crate::record::{audio_length, room, write};
+use crate::record::{Record, audio_length, room, write};
 use base::part;
+use std::array;
 use std::io::{self, Read};
 
-// Reads until the buffer is full or the input ends, and answers how many bytes have come.
-fn read_full(input: &mut impl Read, buffer: &mut [u8]) -> io::Result<usize>
-    ensures { IfOk result (λ n. n ≤ length buffer.old) }
-{
-    let mut n = 0;
-    // Each turn but the last brings a byte.
-    for _ in 0..buffer.len() {
-        let got = input.read(&mut buffer[n..])?;
-        if got == 0 {
-            break;
-        }
-        n += got;
-    }
-    Ok(n)
-}
-
-// Answers false at the end of the input.
-fn turn(rt: &impl Print, input: &mut impl Read, sound: &[u8]) -> io::Result<bool> {
+// The next record; none where the input ends before it is whole.
+fn next(input: &mut impl Read) -> io::Result<Option<Record>> {
     let mut record = [0u8; 32];
-    if read_full(input, &mut record)? < 32 {
-        return Ok(false);
-    }
-    answer(rt, &record, sound)?;
-    Ok(true)
+    let n = io::copy(&mut input.by_ref().take(32), &mut &mut record[..])?;
+    Ok((n == 32).then_some(record))
 }
 
-fn answer(rt: &impl Print, record: &[u8], sound: &[u8]) -> io::Result<()> {
+fn answer(rt: &impl Print, record: &Record, sound: &[u8]) -> io::Result<()> {
     let mut space = [0xEEu8; 512];
     let lent = &mut space[0..room(record)];
     let written = write(record, part(sound, 0, audio_length(record)), lent);
@@ -49,26 +29,19 @@ fn answer(rt: &impl Print, record: &[u8], sound: &[u8]) -> io::Result<()> {
 }
 
 // The audio of every message is the front of this.
-fn sound() -> [u8; 512]
-    ensures { 512 ≡ length result }
-{
-    let mut bytes = [0u8; 512];
-    let mut i: usize = 0;
-    while i < 512 {
-        bytes[i] = ((7 * i + 1) % 256) as u8;
-        i += 1;
-    }
-    bytes
+fn sound() -> [u8; 512] {
+    array::from_fn(|i| ((7 * i + 1) % 256) as u8)
 }
 
 fn main(rt: HostRuntime) -> io::Result<()> {
     let mut input = rt.reader();
-    let bytes = sound();
+    let sound = sound();
     // More turns than an input has records: they show that the loop ends.
     for _ in 0..u64::MAX {
-        if !turn(&rt, &mut input, &bytes)? {
+        let Some(record) = next(&mut input)? else {
             break;
-        }
+        };
+        answer(&rt, &record, &sound)?;
     }
     Ok(())
 }

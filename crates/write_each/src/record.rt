@@ -9,86 +9,68 @@
 //     14-18  SQU, ptt-id, PM, PTTS, SCT; a bit is set by any number but 0
 ghost use Rattle.std.specs.Prelude.{◌≤◌};
 
-use base::{byte_at, least, number16_at, number32_at};
-use packet::{ClimaxItem, Rx, SideItem, SqiItem, Tx};
-use writer::{Written, write_rx, write_tx};
+use base::{number16_at, number32_at};
+use packet::{Refusal, Rx, Side, Sqi, Tx};
+use writer::{write_rx, write_tx};
 
-pub(crate) fn write(record: &[u8], audio: &[u8], lent: &mut [u8]) -> Written {
+pub(crate) type Record = [u8; 32];
+
+pub(crate) fn write(record: &Record, audio: &[u8], lent: &mut [u8]) -> Result<usize, Refusal> {
     let ext = number16_at(record, 1);
-    if set(record, 0) {
-        write_rx(ext, rx(record), audio, lent)
-    } else {
+    if record[0] == 0 {
         write_tx(ext, tx(record), audio, lent)
+    } else {
+        write_rx(ext, rx(record), audio, lent)
     }
 }
 
-fn tx(record: &[u8]) -> Tx {
+fn tx(record: &Record) -> Tx {
     Tx {
         sequence: number16_at(record, 3),
         timestamp: number32_at(record, 5),
         ssrc: number32_at(record, 9),
-        ptt: byte_at(record, 13),
-        id: byte_at(record, 15),
-        pm: set(record, 16),
-        ptts: set(record, 17),
-        climax: climax(record),
-        side: side(record),
+        ptt: record[13],
+        id: record[15],
+        pm: record[16] != 0,
+        ptts: record[17] != 0,
+        climax: (record[22] != 0).then_some(record[23]),
+        side: side(record[24]),
     }
 }
 
-fn rx(record: &[u8]) -> Rx {
+fn rx(record: &Record) -> Rx {
     Rx {
         sequence: number16_at(record, 3),
         timestamp: number32_at(record, 5),
         ssrc: number32_at(record, 9),
-        ptt: byte_at(record, 13),
-        squ: set(record, 14),
-        id: byte_at(record, 15),
-        pm: set(record, 16),
-        ptts: set(record, 17),
-        sct: set(record, 18),
-        sqi: sqi(record),
-        side: side(record),
+        ptt: record[13],
+        squ: record[14] != 0,
+        id: record[15],
+        pm: record[16] != 0,
+        ptts: record[17] != 0,
+        sct: record[18] != 0,
+        sqi: (record[19] != 0).then_some(Sqi {
+            quality: record[20],
+            method: record[21],
+        }),
+        side: side(record[24]),
     }
 }
 
-fn set(record: &[u8], i: usize) -> bool {
-    byte_at(record, i) != 0
-}
-
-fn sqi(record: &[u8]) -> SqiItem {
-    if set(record, 19) {
-        SqiItem::Is {
-            quality: byte_at(record, 20),
-            method: byte_at(record, 21),
-        }
-    } else {
-        SqiItem::Absent
+fn side(b: u8) -> Option<Side> {
+    match b {
+        0 => None,
+        1 => Some(Side::Main),
+        _ => Some(Side::Standby),
     }
 }
 
-fn climax(record: &[u8]) -> ClimaxItem {
-    if set(record, 22) {
-        ClimaxItem::Is(byte_at(record, 23))
-    } else {
-        ClimaxItem::Absent
-    }
+pub(crate) fn audio_length(record: &Record) -> usize {
+    number16_at(record, 25).min(512) as usize
 }
 
-fn side(record: &[u8]) -> SideItem {
-    match byte_at(record, 24) {
-        0 => SideItem::Absent,
-        1 => SideItem::Main,
-        _ => SideItem::Standby,
-    }
-}
-
-pub(crate) fn audio_length(record: &[u8]) -> usize {
-    least(number16_at(record, 25) as usize, 512)
-}
-
-pub(crate) fn room(record: &[u8]) -> usize
+pub(crate) fn room(record: &Record) -> usize
     ensures { result ≤ 512 }
 {
-    least(number16_at(record, 27) as usize, 512)
+    number16_at(record, 27).min(512) as usize
 }

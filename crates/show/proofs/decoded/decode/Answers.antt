@@ -5,5 +5,5 @@ use Rattle.show.proofs.decoded.decode.Goals as goal
 pub returns : goal.returns
 unfolding decoded_line
 returns c =
-    (rw (c.read_tx-read.ensures, c.payload-rest.ensures.holds) at c.answer_line-at.ensures)
+    (rw (c.read_tx.ensures, c.payload.ensures.holds) at c.answer_line-at.ensures)
     then c.put_byte.ensures

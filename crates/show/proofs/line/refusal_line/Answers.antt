@@ -5,4 +5,4 @@ use Rattle.show.proofs.line.refusal_line.Goals as goal
 pub returns : goal.returns
 unfolding refusal_line
 returns c =
-    rw (← c.cause.ensures, ← c.number.ensures) (c.refused_line-at.ensures then c.named_number.ensures)
+    rw (← c.cause.ensures, ← c.number.ensures) (c.refused_line-at.ensures then c.named.ensures)
