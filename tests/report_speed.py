@@ -35,11 +35,9 @@ CALLS = """#![tactic(auto)]
 use bench::Bench;
 use bench::CallType;
 use bench::Kind;
-use bench::PacketAnswer;
 use bench::Request;
 use bench::Setup;
 use bench::kind_code;
-use writer::Written;
 
 #[unsafe(no_mangle)]
 pub extern "C" fn open_all(held: &mut Bench) {
@@ -65,10 +63,7 @@ pub extern "C" fn one_report(held: &mut Bench, n: u8, timestamp: u32, out: &mut 
     let silence = [0u8; 0];
     let reported = bench::report(*held, n, timestamp, &silence, out);
     *held = reported.bench;
-    match reported.answer {
-        Written::Length(length) => length,
-        Written::Refused(_) => 0,
-    }
+    reported.answer.unwrap_or(0)
 }
 
 // 1, and 0 if it is refused.
@@ -76,10 +71,7 @@ pub extern "C" fn one_report(held: &mut Bench, n: u8, timestamp: u32, out: &mut 
 pub extern "C" fn one_packet(held: &mut Bench, n: u8, data: &[u8; 20]) -> u32 {
     let heard = bench::packet(*held, n, data);
     *held = heard.bench;
-    match heard.answer {
-        PacketAnswer::Accepted(_) => 1,
-        PacketAnswer::Refused(_) => 0,
-    }
+    heard.answer.is_ok() as u32
 }
 
 // 1 and the bytes used, 0 if it is refused.
@@ -88,8 +80,8 @@ pub extern "C" fn one_tick(held: &Bench, after: &mut Bench, ms: u16, timestamp: 
     let ticked = bench::tick(*held, ms, timestamp, out);
     *after = ticked.bench;
     match ticked.answer {
-        Written::Length(used) => used.saturating_add(1),
-        Written::Refused(_) => 0,
+        Ok(used) => used.saturating_add(1),
+        Err(_) => 0,
     }
 }
 """
