@@ -11,7 +11,9 @@ pub mod shown;
 pub mod whole;
 
 pub use kind::{Kind, kind_code};
-pub use seat::{Field, Heard, Seat, Totals, flag_of, is_open, no_such_seat, seat_of};
+pub use seat::{
+    Field, Heard, Seat, Totals, entry_of, flag_of, is_open, no_such_seat, seat_of, set_entry,
+};
 pub use setup::{Setup, lesson_seat};
 pub use shown::Air;
 pub use whole::Bench;

@@ -1,10 +1,10 @@
 // A seat, and what it remembers of the packets that it accepted.
 ghost use Rattle.std.specs.Prelude.{◌≡◌, false};
-ghost use Rattle.record.specs.Record.{no_such_seat, opened_seat, entry_of, seat_of};
+ghost use Rattle.record.specs.Record.{no_such_seat, opened_seat, entry_of, with_entry, seat_of};
 
 // The field of a packet with its items, as a seat remembers it. An item is there or not, and its value, 0 where it is not.
 #[repr(C)]
-#[derive(Clone, Copy)]
+#[derive(Clone, Copy, PartialEq, Eq)]
 pub struct Field {
     pub ptt: u8,
     pub id: u8,
@@ -95,6 +95,7 @@ impl Seat {
     };
 
     // A seat just opened has heard nothing.
+    #[tactic(auto, unfolding(crate::specs::Record::opened_seat))]
     pub fn opened(call: u8, period: u16, multiplier: u8, ssrc: u32) -> Seat
         ensures { result ≡ opened_seat call period multiplier ssrc }
     {
@@ -103,7 +104,7 @@ impl Seat {
             call,
             period,
             multiplier,
-            left: (period as u32) * (multiplier as u32),
+            left: u32::from(period) * u32::from(multiplier),
             phase: 0,
             ssrc,
             heard: Heard::NOTHING,
@@ -116,32 +117,49 @@ impl Seat {
 pub fn no_such_seat(n: u8) -> bool
     ensures { result ≡ no_such_seat n }
 {
-    (n == 0) | (8 < n)
+    !matches!(n, 1..=8)
+}
+
+// What an array holds for seat n; `none` for what is no seat's number.
+pub fn entry_of<T: Copy>(none: T, entries: &[T], n: u8) -> T
+    ensures { result ≡ entry_of none entries.now n }
+{
+    if no_such_seat(n) {
+        return none;
+    }
+    entries.get(usize::from(n - 1)).copied().unwrap_or(none)
+}
+
+// Another entry for seat n; what is no seat's number leaves the array as it was.
+pub fn set_entry<T: Copy>(entries: &mut [T], n: u8, entry: T)
+    ensures { entries.new ≡ with_entry entries.old n entry }
+{
+    if no_such_seat(n) {
+        return;
+    }
+    let place = usize::from(n - 1);
+    if place < entries.len() {
+        entries[place] = entry;
+    }
 }
 
 // The flag of a seat; false for what is no seat's number.
 pub fn flag_of(flags: [bool; 8], n: u8) -> bool
     ensures { result ≡ entry_of false flags n }
 {
-    if no_such_seat(n) {
-        return false;
-    }
-    flags[(n - 1) as usize]
+    entry_of(false, &flags, n)
 }
 
 // The seat of a number; a number that is no seat's counts as a closed one.
+#[tactic(auto, unfolding(crate::specs::Record::seat_of))]
 pub fn seat_of(seats: [Seat; 8], n: u8) -> Seat
     ensures { result ≡ seat_of seats n }
 {
-    if no_such_seat(n) {
-        return Seat::CLOSED;
-    }
-    seats[(n - 1) as usize]
+    entry_of(Seat::CLOSED, &seats, n)
 }
 
 pub fn is_open(seats: [Seat; 8], n: u8) -> bool
     ensures { result ≡ (seat_of seats n).opened }
 {
-    let seat = seat_of(seats, n);
-    seat.opened
+    seat_of(seats, n).opened
 }

@@ -17,9 +17,9 @@ pub struct Setup {
     pub coupling_summation: bool,
 }
 
+#[tactic(auto, unfolding(crate::specs::Record::lesson))]
 pub fn lesson_seat(setup: Setup, n: u8) -> bool
     ensures { result ≡ lesson setup n }
 {
-    let lesson = setup.lesson;
-    flag_of(lesson, n)
+    flag_of(setup.lesson, n)
 }

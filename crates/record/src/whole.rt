@@ -26,13 +26,13 @@ pub struct Bench {
 
 impl Bench {
     // No seat is open, main is in use, the transmitter is healthy, no signal is received; so nobody is on the air.
+    #[tactic(auto, unfolding(crate::specs::Record::fresh_bench))]
     pub fn fresh(setup: Setup) -> Bench
         ensures { result ≡ fresh_bench setup }
     {
-        let closed = Seat::CLOSED;
         Bench {
             setup,
-            seats: [closed; 8],
+            seats: [Seat::CLOSED; 8],
             sequences: [0; 8],
             order: [1, 2, 3, 4, 5, 6, 7, 8],
             standby: false,
