@@ -8,30 +8,31 @@ use native.Mathlib.Omega.{arith}
 use native.Mathlib.Nat.{add-zero}
 use borrow.Author.Tests.{leb-true, leb-false}
 use borrow.Rule.Slice.PartMut.{put_mid}
+use Rattle.std.proofs.lemmas.Grind.{common_steps}
 use lib.Dec.{leb}
 use lib.ListN.{length, set, take, drop, length-append, length-take, length-drop, drop_of_length-le}
-use lib.Seq.{sets, take_all, drop-nil, take-append-le, take-append-add, take_at, drop_at, drop-drop}
+use lib.Seq.{sets, take_all, take-append-le, take-append-add, take_at, drop_at, drop-drop}
 use Rattle.base.specs.Bytes.{overlaid}
 use Rattle.base.proofs.Parts.{part_to_end}
 
 pub overlaid_nothing : (P : List ℕ) → overlaid P [] ≡ []
 unfolding overlaid
-overlaid_nothing P = drop-nil (length P)
+overlaid_nothing P = grind (arith, common_steps)
 
 pub overlaid_none : (l : List ℕ) → overlaid [] l ≡ l
 unfolding overlaid
-overlaid_none l = ap (λ (r : List ℕ). r ++ l) (take_all (length l) [] (omega arith))
+overlaid_none l = grind (arith, common_steps)
 
 module _ (P l : List ℕ) where
   -- where there is room, all of the bytes
   pub overlaid_fits : length P ≤ length l → overlaid P l ≡ P ++ drop (length P) l
   unfolding overlaid
-  overlaid_fits h = rw (take_all (length l) P)
+  overlaid_fits h = grind (arith, common_steps)
 
   -- where there is not, as many as the buffer holds
   pub overlaid_full : length l ≤ length P → overlaid P l ≡ take (length l) P
   unfolding overlaid
-  overlaid_full h = rw (drop_of_length-le l) (append-nil (take (length l) P))
+  overlaid_full h = grind (arith, common_steps)
 
 module _ (P Q l : List ℕ) where
   both_fit : length P ≤ length l → P ++ overlaid Q (drop (length P) l) ≡ overlaid (P ++ Q) l

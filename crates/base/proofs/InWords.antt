@@ -1,16 +1,14 @@
 -- The definitions of Order, held to InWords.
 use Prim.Native.Nat.{ℕ, ◌+◌, ◌%◌, ◌≤◌}
-use mathlib.Core.Path.{◌≡◌, refl, sym, ap, subst, ◌∙◌}
+use mathlib.Core.Path.{◌≡◌, refl, sym, subst}
 use mathlib.Core.Bool.{Bool, true, false, false≢true}
 use mathlib.Core.Logic.{◌↔◌}
 use native.Mathlib.Omega.{arith}
-use lib.Dec.{leb, le→leb}
-use lib.IntN.{ℤ, pos, ◌+ℤ◌, ◌-ℤ◌}
-use lib.Signed.{le_z}
-use borrow.Author.Tests.{leb-true}
-use Rattle.base.specs.Order.{wrapped, size, distance, late, missing}
+use Rattle.std.proofs.lemmas.Int.{ints}
+use lib.Dec.{le→leb}
+use lib.IntN.{ℤ, pos, ◌+ℤ◌}
+use Rattle.base.specs.Order.{wrapped, distance, late, missing}
 use Rattle.base.specs.InWords.{Missing, first, later}
-use Rattle.base.proofs.Signed.{by_difference}
 use Rattle.base.proofs.OrderLaws.{distance_leads, distance_only, missing_most, missing_is}
 
 module _ (last new : ℕ) where
@@ -31,10 +29,7 @@ module _ (last new : ℕ) where
   no_other false _ (first e) = refl
   no_other false k (later _ e most leads) = absurd (false≢true e)
   no_other true _ (first e) = absurd (false≢true (sym e))
-  no_other true k (later _ e most leads) = one_less k ∙ ap (λ (z : ℤ). size (z -ℤ pos 1)) (leads_on k most leads)
-    where
-      one_less : (k : ℕ) → k ≡ size (pos (k + 1) -ℤ pos 1)
-      one_less k = by_difference (λ (z : ℤ). k ≡ size z) (k + 1) 1 (λ l. absurd (omega arith)) (λ l. omega arith)
+  no_other true k (later _ e most leads) = grind (arith, ints, leads_on k most leads)
 
   -- it is late exactly if no number of packets can be missing before it
   pub late_exactly : (heard : Bool) → (late heard last new ≡ true) ↔ ((k : ℕ) → Missing heard last new k → ⊥)
@@ -44,9 +39,7 @@ module _ (last new : ℕ) where
       to : (heard : Bool) → late heard last new ≡ true → (k : ℕ) → Missing heard last new k → ⊥
       to false e k m = false≢true e
       to true e _ (first f) = false≢true (sym f)
-      to true e k (later _ f most leads) =
-          let under : leb (k + 1) 0 ≡ true = ap (λ (z : ℤ). le_z z (pos 0)) (leads_on k most leads) ∙ e in
-          omega (arith, leb-true (k + 1) 0 under)
+      to true e k (later _ f most leads) = grind (arith, ints, leads_on k most leads)
 
       by_case : (t : Bool) → late heard last new ≡ t → ((k : ℕ) → Missing heard last new k → ⊥) → t ≡ true
       by_case true e none = refl

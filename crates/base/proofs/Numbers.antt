@@ -1,5 +1,5 @@
 -- Bytes at a place are the number read there, written again; and a list cut at a place.
-use Prim.Native.Nat.{ℕ, ◌+◌, ◌*◌, ◌/◌, ◌%◌, ◌<◌}
+use Prim.Native.Nat.{ℕ, ◌+◌, ◌*◌, ◌%◌, ◌<◌}
 use mathlib.Core.Path.{◌≡◌, ap, sym, ◌∙◌}
 use mathlib.Core.List.{List, [], ◌∷◌, ◌++◌}
 use native.Mathlib.Omega.{arith}
@@ -16,18 +16,10 @@ pub taken_in_two : {A : Type 0} (n m i : ℕ) (l : List A) → take (n + m) (dro
 taken_in_two {A} n m i l = take-add n m (drop i l) ∙ ap (λ (r : List A). take n (drop i l) ++ take m r) (drop-drop n i l)
 
 two_bytes : (a b : ℕ) → a < 256 → b < 256 → bytes8 a ++ bytes8 b ≡ bytes16 (a * 256 + b)
-two_bytes a b h k =
-    let high : a % 256 ≡ (a * 256 + b) / 256 % 256 = omega arith in
-    let low : b % 256 ≡ (a * 256 + b) % 256 = omega arith in
-    cc
+two_bytes a b h k = grind arith
 
 four_bytes : (a b : ℕ) → a < 65536 → b < 65536 → bytes16 a ++ bytes16 b ≡ bytes32 (a * 65536 + b)
-four_bytes a b h k =
-    let first : a / 256 % 256 ≡ (a * 65536 + b) / 65536 / 256 % 256 = omega arith in
-    let second : a % 256 ≡ (a * 65536 + b) / 65536 % 256 = omega arith in
-    let third : b / 256 % 256 ≡ (a * 65536 + b) / 256 % 256 = omega arith in
-    let fourth : b % 256 ≡ (a * 65536 + b) % 256 = omega arith in
-    cc
+four_bytes a b h k = grind arith
 
 module _ (s : List ℕ) (small : Bytes s) where
   pub byte_back : (i : ℕ) → i < length s → take 1 (drop i s) ≡ bytes8 (byte_at s i)
