@@ -3,9 +3,8 @@ use Prim.Native.Nat.{ℕ, ◌+◌, ◌-◌, ◌%◌, ◌<◌, ◌≤◌}
 use mathlib.Core.Path.{◌≡◌, ◌∙◌, ap}
 use mathlib.Core.Bool.{false}
 use native.Mathlib.Omega.{arith}
-use borrow.Author.Tests.{lt-ltb, le-ltb}
-use lib.IntN.{ℤ, pos, negsuc, sub_ℕ, neg_ℤ, ◌+ℤ◌, ◌-ℤ◌}
-use lib.Signed.{mag, le_z, ◌≤ℤ◌}
+use lib.IntN.{ℤ, pos, negsuc, sub_ℕ, ◌+ℤ◌, ◌-ℤ◌}
+use lib.Signed.{mag, le_z}
 use mir.Syntax.{w16}
 use mir.Val.{to_z}
 use Rattle.std.proofs.lemmas.Int.{ints}
@@ -19,20 +18,10 @@ wrapped_below (negsuc n) = omega arith
 forward : (last new : ℕ) → last < 65536 → new < 65536 → (new + (65536 - last)) % 65536 ≡ wrapped (sub_ℕ new last)
 forward last new h k = grind (arith, ints)
 
--- brought into the middle
-module _ (n : ℕ) where
-  pub centred_low : n < 32768 → centred n ≡ pos n
-  unfolding centred
-  centred_low h = simp (lt-ltb n 32768 h)
-
-  pub centred_high : 32768 ≤ n → centred n ≡ pos n -ℤ pos 65536
-  unfolding centred
-  centred_high h = simp (le-ltb n 32768 h)
-
-  -- from -32768 to 32767
-  pub centred_near : n < 65536 → mag (centred n) < 32768
-  unfolding centred
-  centred_near h = grind (arith, ints)
+-- brought into the middle, from -32768 to 32767
+centred_near : (n : ℕ) → n < 65536 → mag (centred n) < 32768
+unfolding centred
+centred_near n h = grind (arith, ints)
 
 pub distance_near : (last new : ℕ) → mag (distance last new) < 32768
 unfolding distance
@@ -55,20 +44,7 @@ size_near z h = grind (arith, ints)
 pub one_more : (z : ℤ) → le_z z (pos 0) ≡ false → pos (size (z -ℤ pos 1) + 1) ≡ z
 one_more z e = grind (arith, ints)
 
--- what is between -32768 and 32767
-pub low_if_near : (z : ℤ) → mag z < 32768 → neg_ℤ (pos 32768) ≤ℤ z
-low_if_near z h = omega (arith, ints)
-
-pub high_if_near : (z : ℤ) → mag z < 32768 → z ≤ℤ pos 32767
-high_if_near z h = omega (arith, ints)
-
-pub near_if_between : (z : ℤ) → neg_ℤ (pos 32768) ≤ℤ z → z ≤ℤ pos 32767 → mag z < 32768
-near_if_between z l h = grind (arith, ints)
-
 -- going on from a number by a distance
-below_leads : (a n : ℕ) → n < 65536 → wrapped (pos a +ℤ (pos n -ℤ pos 65536)) ≡ (a + n) % 65536
-below_leads a n h = grind (arith, ints)
-
 pub centred_leads : (a n : ℕ) → n < 65536 → wrapped (pos a +ℤ centred n) ≡ (a + n) % 65536
 unfolding centred
 centred_leads a n h = grind (arith, ints)

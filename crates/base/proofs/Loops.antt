@@ -1,7 +1,7 @@
 -- Laws for a loop that takes the elements of a list one by one: what is left to do at each turn, and at the end.
 use Prim.Native.Nat.{ℕ, zero, suc, ◌+◌, ◌<◌, ◌≤◌}
 use mathlib.Core.Path.{◌≡◌, refl, ap}
-use mathlib.Core.List.{List, [], ◌∷◌, ◌++◌, map, foldl, append-nil}
+use mathlib.Core.List.{List, [], ◌∷◌, ◌++◌, map, append-nil}
 use native.Mathlib.Nat.{le_of_suc-le-suc, not-suc-le-zero}
 use native.Mathlib.Numerals.{add-one}
 use native.Mathlib.Omega.{arith}
@@ -15,13 +15,6 @@ module _ {A : Type 0} (l : List A) (i : ℕ) {n : ℕ} (long : length l ≡ n) w
 
   pub left_done : n ≤ i → drop i l ≡ []
   left_done h = let past : length l ≤ i = omega arith in drop_of_length-le l past
-
-module _ {A S : Type 0} (f : S → A → S) (s : S) (l : List A) (i : ℕ) where
-  pub fold_more : (z : A) → i < length l → foldl f (f s (get_or l i z)) (drop (i + 1) l) ≡ foldl f s (drop i l)
-  fold_more z h = rw (left_more l i refl z h)
-
-  pub fold_done : length l ≤ i → foldl f s (drop i l) ≡ s
-  fold_done h = rw (left_done l i refl h)
 
 -- A list filled from the front with g of each element of another list.
 module _ {A B : Type 0} (g : A → B) where
