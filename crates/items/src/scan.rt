@@ -223,6 +223,7 @@ fn end(s: Scan) -> Option<Items>
 }
 
 // The items that the bytes hold under X, the bytes after the first two of the words.
+// kept: `x` is a number and no bool, since `items_read` promises an answer for every one.
 #[tactic(auto, using(crate::proofs::Meaning::scan_is))]
 pub fn items_in(d: Direction, x: u16, s: &[u8]) -> Option<Items>
     ensures { result ≡ items_read d x s.now }
