@@ -29,11 +29,7 @@ fn usage(call: Name) -> &'static [u8] {
 // What a line that is no call is told.
 pub(crate) fn expected(out: &mut [u8], s: &[u8]) -> usize {
     let at = put(out, 0, b"error: expected ");
-    put(
-        out,
-        at,
-        named(s).map_or(b"a call; help prints them", usage),
-    )
+    put(out, at, named(s).map_or(b"a call; help prints them", usage))
 }
 
 pub(crate) fn too_long(out: &mut [u8]) -> usize {
