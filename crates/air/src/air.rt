@@ -4,10 +4,10 @@ ghost use Rattle.std.specs.List.{list_any};
 ghost use Rattle.air.specs.Air.{rank, type_of, keyed, bench_air, aired};
 ghost use Rattle.air.specs.Marks.{standing_of, rank_of, highest, seats_at, first_at, mark_all, marks_of, leaders_at, added_at, ptts_shown};
 
-use crate::marks::{mark, marked, smallest};
+use crate::marks::{marked, smallest};
 use crate::order::place_in;
 use packet::ptt_on;
-use record::{Air, Bench, Field, Seat, no_such_seat};
+use record::{Air, Bench, Field, Seat, entry_of, set_entry};
 
 const COUPLING_RANK: u8 = 2;
 
@@ -71,10 +71,7 @@ fn standings(healthy: bool, seats: [Seat; 8]) -> [u8; 8]
 fn rank_of(standings: [u8; 8], n: u8) -> u8
     ensures { result ≡ rank_of standings n }
 {
-    if no_such_seat(n) {
-        return 0;
-    }
-    standings[(n - 1) as usize]
+    entry_of(0, &standings, n)
 }
 
 // The rank at each place of the order.
@@ -106,7 +103,7 @@ fn mark_at(mut marks: [bool; 8], rank: u8, order: [u8; 8], ranks: [u8; 8]) -> [b
 {
     for (n, r) in order.iter().zip(&ranks) {
         if *r == rank {
-            mark(&mut marks, *n);
+            set_entry(&mut marks, *n, true);
         }
     }
     marks
@@ -124,7 +121,7 @@ fn leading(equal_summation: bool, top: u8, order: [u8; 8], ranks: [u8; 8]) -> [b
     if equal_summation {
         return mark_at(leads, top, order, ranks);
     }
-    mark(&mut leads, first_at(top, order, ranks));
+    set_entry(&mut leads, first_at(top, order, ranks), true);
     leads
 }
 

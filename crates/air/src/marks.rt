@@ -1,19 +1,7 @@
 // A set of seats as eight marks; seat n has place n - 1. specs/Marks.antt says what each function finds.
-ghost use Rattle.std.specs.Prelude.{◌≡◌, true, position};
+ghost use Rattle.std.specs.Prelude.{◌≡◌, position};
 ghost use Rattle.base.specs.Lists.{how_many};
-ghost use Rattle.record.specs.Record.{with_entry};
 ghost use Rattle.air.specs.Marks.{smallest_from};
-
-use record::no_such_seat;
-
-// One seat more; what is no seat's number leaves no mark.
-pub(crate) fn mark(marks: &mut [bool; 8], n: u8)
-    ensures { marks.new ≡ with_entry marks.old n true }
-{
-    if !no_such_seat(n) {
-        marks[(n - 1) as usize] = true;
-    }
-}
 
 // The smallest seat that is marked, 0 if none is.
 #[tactic(auto, using(crate::proofs::Chains::smallest_found))]
