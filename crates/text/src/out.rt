@@ -1,5 +1,6 @@
 // Text out: each function writes at a place and returns the place after it. What does not fit is dropped, so that a
 // caller has nothing to test between two of them.
+// kept: by hand; `write!` says what is written after an `Ok` alone, and no clause promises an `Ok`.
 ghost use Rattle.std.specs.Prelude.{◌≡◌, [], ◌∷◌, ◌<◌};
 ghost use Rattle.text.specs.Text.{Written, decimal, bit_text, hex_digit, hex_byte, hex, bytes_text};
 
