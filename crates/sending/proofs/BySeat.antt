@@ -1,6 +1,6 @@
 -- The records of a tick, by the number of the seat.
 use Prim.Native.Nat.{ℕ, zero, suc, ◌+◌, ◌-◌}
-use mathlib.Core.Path.{◌≡◌, refl, ap, ◌∙◌}
+use mathlib.Core.Path.{◌≡◌, refl}
 use mathlib.Core.Bool.{Bool, false}
 use mathlib.Core.List.{List, [], ◌∷◌}
 use native.Mathlib.Omega.{arith}
@@ -14,14 +14,9 @@ module _ (shown : Bench) (timestamp : ℕ) where
   record_at : (n : ℕ) (due : List Bool) (k : ℕ) → get_or (records_from shown timestamp n due) k [] ≡ record_for shown timestamp (n + k) (get_or due k false)
   unfolding records_from
   record_at n [] k = refl
-  record_at n (d ∷ ds) zero = let here : n ≡ n + 0 = omega arith in ap (λ (j : ℕ). record_for shown timestamp j d) here
-  record_at n (d ∷ ds) (suc k) =
-      let next : suc n + k ≡ n + suc k = omega arith in
-      record_at (suc n) ds k ∙ ap (λ (j : ℕ). record_for shown timestamp j (get_or ds k false)) next
+  record_at n (d ∷ ds) zero = grind arith
+  record_at n (d ∷ ds) (suc k) = grind (arith, record_at (suc n) ds k)
 
   pub seat_record : (due : List Bool) (n : ℕ) → no_such_seat n ≡ false
       → entry_of [] (records_from shown timestamp 1 due) n ≡ record_for shown timestamp n (entry_of false due n)
-  seat_record due n real =
-      let r = seat_in_range n real in
-      let here : 1 + (n - 1) ≡ n = omega arith in
-      rw real (record_at 1 due (n - 1) ∙ ap (λ (j : ℕ). record_for shown timestamp j (get_or due (n - 1) false)) here)
+  seat_record due n real = grind (arith, record_at 1 due (n - 1), seat_in_range n real)

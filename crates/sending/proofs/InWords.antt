@@ -9,7 +9,7 @@ use lib.ListN.{length, get_or}
 use borrow.Author.Tests.{ltb-true, lt-ltb}
 use Rattle.packet.proofs.InWords.{MetIf, Agree}
 use Rattle.record.specs.Record.{no_such_seat, entry_of}
-use Rattle.record.proofs.Seats.{seat_in_range, entry_none, entry_there, flag_is_seat}
+use Rattle.record.proofs.Seats.{seat_in_range, flag_is_seat}
 use Rattle.reporting.specs.Reporting.{next_sequence}
 use Rattle.reporting.specs.InWords.{OneUp}
 use Rattle.reporting.proofs.InWords.{one_up}
@@ -47,9 +47,7 @@ further_at (d ∷ ds) (q ∷ qs) (suc i) h = further_at ds qs i (omega arith)
 
 module _ (due : List Bool) (numbers : List ℕ) (eight : length numbers ≡ 8) where
   by_seat : (n : ℕ) → no_such_seat n ≡ false → entry_of 0 (one_further due numbers) n ≡ cond (entry_of false due n) (next_sequence (entry_of 0 numbers n)) (entry_of 0 numbers n)
-  by_seat n real =
-      rw (entry_there (one_further due numbers) n 0 real, entry_there due n false real, entry_there numbers n 0 real)
-      (further_at due numbers (n - 1) (let r = seat_in_range n real in omega arith))
+  by_seat n real = grind (arith, further_at due numbers (n - 1), seat_in_range n real)
 
   pub due_alone : ((i : ℕ) → get_or numbers i 0 < 65536) → DueAlone due numbers (one_further due numbers)
   due_alone fit = record { of_due = of_due; of_others = λ n e. by_number n (no_such_seat n) refl e }
@@ -57,9 +55,9 @@ module _ (due : List Bool) (numbers : List ℕ) (eight : length numbers ≡ 8) w
       of_due : (n : ℕ) → entry_of false due n ≡ true → OneUp (entry_of 0 numbers n) (entry_of 0 (one_further due numbers) n)
       of_due n e =
           let real = flag_is_seat due n e in
-          let small : entry_of 0 numbers n < 65536 = rw (entry_there numbers n 0 real) (fit (n - 1)) in
+          let small : entry_of 0 numbers n < 65536 = grind (arith, fit (n - 1)) in
           subst (OneUp (entry_of 0 numbers n)) (sym (by_seat n real ∙ rw e)) (one_up (entry_of 0 numbers n) small)
 
       by_number : (n : ℕ) (t : Bool) → no_such_seat n ≡ t → entry_of false due n ≡ false → entry_of 0 (one_further due numbers) n ≡ entry_of 0 numbers n
-      by_number n true past e = entry_none (one_further due numbers) n 0 past ∙ sym (entry_none numbers n 0 past)
+      by_number n true past e = grind arith
       by_number n false real e = by_seat n real ∙ rw e

@@ -23,8 +23,7 @@ frame_length two = 22 + 4 * bit two
 
 -- eight of them need no more than 26 asks for
 eight_fit : (two : Bool) (reports : ℕ) → reports ≤ 8 → frame_length two * reports ≤ most_sent
-eight_fit true reports few = omega arith
-eight_fit false reports few = omega arith
+eight_fit two reports few = grind arith
 
 module _ (shown : Bench) (timestamp : ℕ) where
   -- a report is never empty, so the one of a seat that is due is sent

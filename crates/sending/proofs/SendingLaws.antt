@@ -1,11 +1,10 @@
 -- The loops of a tick, seat after seat: the bytes in front after i seats, and the numbers.
 use Prim.Native.Nat.{ℕ, zero, suc, ◌+◌, ◌≤◌, ◌<◌}
-use mathlib.Core.Path.{◌≡◌, refl, sym, ap, ◌∙◌}
+use mathlib.Core.Path.{◌≡◌, ap, ◌∙◌}
 use mathlib.Core.Bool.{Bool, true, false, cond}
 use mathlib.Core.List.{List, [], ◌∷◌, ◌++◌, append_assoc, append-nil}
 use native.Mathlib.Omega.{arith}
 use native.Mathlib.Numerals.{add-one}
-use native.Mathlib.Nat.{le_of_suc-le-suc, not-suc-le-zero}
 use lib.ListN.{length, take, get_or, set, length-append, length-map}
 use lib.Seq.{take_all}
 use Rattle.base.proofs.Buffers.{overlaid_none, overlaid_fits, overlaid_then}
@@ -25,12 +24,9 @@ module _ (shown : Bench) (timestamp : ℕ) where
   one_more : (n i : ℕ) (due : List Bool) → i < length due
       → sent_from n (take (suc i) due) ≡ sent_from n (take i due) ++ sent_as (record_for shown timestamp (n + i) (get_or due i false))
   unfolding records_from in_order
-  one_more n i [] h = absurd (not-suc-le-zero h)
-  one_more n zero (d ∷ ds) h = append-nil (sent_as (record_for shown timestamp n d)) ∙ ap (λ (k : ℕ). sent_as (record_for shown timestamp k d)) (omega arith)
-  one_more n (suc i) (d ∷ ds) h =
-      ap (λ (r : List ℕ). sent_as (record_for shown timestamp n d) ++ r) (one_more (suc n) i ds (le_of_suc-le-suc h))
-      ∙ sym (append_assoc (sent_as (record_for shown timestamp n d)) (sent_from (suc n) (take i ds)) (sent_as (record_for shown timestamp (suc n + i) (get_or ds i false))))
-      ∙ ap (λ (k : ℕ). (sent_as (record_for shown timestamp n d) ++ sent_from (suc n) (take i ds)) ++ sent_as (record_for shown timestamp k (get_or ds i false))) (omega arith)
+  one_more n i [] h = absurd (omega arith)
+  one_more n zero (d ∷ ds) h = grind (arith, append-nil)
+  one_more n (suc i) (d ∷ ds) h = grind (arith, append_assoc, one_more (suc n) i ds (omega arith))
 
   -- what is in front after i seats
   abbrev pub sent_to : (i : ℕ) → List Bool → List ℕ
@@ -57,18 +53,17 @@ module _ (shown : Bench) (timestamp : ℕ) where
 moved_at : (i : ℕ) (rs : List Bool) (qs : List ℕ) → i < length rs → i < length qs → get_or rs i false ≡ true
     → one_further (take (suc i) rs) qs ≡ set (one_further (take i rs) qs) i (next_sequence (get_or (one_further (take i rs) qs) i 0))
 unfolding one_further
-moved_at i [] qs h k e = absurd (not-suc-le-zero h)
-moved_at i (r ∷ rs) [] h k e = absurd (not-suc-le-zero k)
-moved_at zero (r ∷ rs) (q ∷ qs) h k e = rw e
-moved_at (suc i) (r ∷ rs) (q ∷ qs) h k e = ap (λ (l : List ℕ). cond r (next_sequence q) q ∷ l) (moved_at i rs qs (le_of_suc-le-suc h) (le_of_suc-le-suc k) e)
+moved_at i [] qs h k e = absurd (omega arith)
+moved_at i (r ∷ rs) [] h k e = absurd (omega arith)
+moved_at zero (r ∷ rs) (q ∷ qs) h k e = grind arith
+moved_at (suc i) (r ∷ rs) (q ∷ qs) h k e = ap (λ (l : List ℕ). cond r (next_sequence q) q ∷ l) (moved_at i rs qs (omega arith) (omega arith) e)
 
 left_at : (i : ℕ) (rs : List Bool) (qs : List ℕ) → i < length rs → get_or rs i false ≡ false → one_further (take (suc i) rs) qs ≡ one_further (take i rs) qs
 unfolding one_further
-left_at i [] qs h e = absurd (not-suc-le-zero h)
-left_at zero (r ∷ rs) [] h e = refl
-left_at (suc i) (r ∷ rs) [] h e = refl
-left_at zero (r ∷ rs) (q ∷ qs) h e = rw e
-left_at (suc i) (r ∷ rs) (q ∷ qs) h e = ap (λ (l : List ℕ). cond r (next_sequence q) q ∷ l) (left_at i rs qs (le_of_suc-le-suc h) e)
+left_at i [] qs h e = absurd (omega arith)
+left_at i (r ∷ rs) [] h e = grind arith
+left_at zero (r ∷ rs) (q ∷ qs) h e = grind arith
+left_at (suc i) (r ∷ rs) (q ∷ qs) h e = ap (λ (l : List ℕ). cond r (next_sequence q) q ∷ l) (left_at i rs qs (omega arith) e)
 
 -- a number moved, of a seat that has a report, and left, of one that has none
 module _ (i : ℕ) (rs : List Bool) (qs : List ℕ) (h : i < length rs) where

@@ -1,13 +1,12 @@
 -- 01's single reports to the due seats, one after the other in rising order: they write what a tick sends, and leave the bench that it leaves.
 use Prim.Native.Nat.{ℕ, zero, suc, ◌+◌, ◌-◌, ◌≤◌, ◌<◌}
 use mathlib.Core.Path.{◌≡◌, refl, sym, ap, ap₂, ◌∙◌}
-use mathlib.Core.Bool.{Bool, true, false, not}
+use mathlib.Core.Bool.{Bool, true, false}
 use mathlib.Core.List.{List, [], ◌∷◌, ◌++◌, map, append-nil}
 use native.Mathlib.Omega.{arith}
-use borrow.Author.Tests.{le-ltb}
+use Rattle.std.proofs.lemmas.Bool.Decides.{nat_tests}
 use lib.ListN.{length, get_or, set, replicate, length-map}
 use Rattle.base.proofs.Places.{map_place}
-use Rattle.base.proofs.Truths.{and_none}
 use Rattle.packet.specs.Refusals.{NoCase}
 use Rattle.packet.specs.declared.message.Rx.{Rx}
 use Rattle.framing.specs.Framing.{framed}
@@ -19,9 +18,8 @@ use Rattle.air.specs.Air.{keyings, bench_air, aired}
 use Rattle.seats.specs.Opening.{seat_refusals}
 use Rattle.seats.specs.Ticking.{is_due, ticked_seat, due_seats, ticked_bench}
 use Rattle.seats.proofs.TickingLaws.{due_open}
-use Rattle.reporting.specs.Reporting.{squ_told, report_of, report_bytes, report_refusals, next_sequence, reported_bench}
+use Rattle.reporting.specs.Reporting.{report_of, report_bytes, report_refusals, next_sequence, reported_bench}
 use Rattle.reporting.proofs.ReportLength.{report_short}
-use Rattle.record.specs.declared.seat.Seat.{Seat}
 use Rattle.record.specs.declared.whole.Bench.{Bench}
 use Rattle.sending.proofs.Numbers.{none_further}
 use Rattle.sending.specs.Sending.{records_from, records, in_order, sent_bytes, one_further, reported_to, sent_bench}
@@ -106,18 +104,14 @@ pub due_are_open : (b : Bench) (ms : ℕ) → length b.seats ≤ 8 → (j : ℕ)
 unfolding is_due ticked_seat ticked_bench
 due_are_open b ms eight j inside due =
     let here : j < 8 = omega (arith, length-map b.seats (is_due ms)) in
-    let number : 1 + j ≡ suc j = omega arith in
-    let its-flag = map_place (is_due ms) closed_seat refl b.seats j in
-    let its-place = ap (seat_of (map (ticked_seat ms) b.seats)) number ∙ seat_at (map (ticked_seat ms) b.seats) j here in
-    let then = its-place ∙ map_place (ticked_seat ms) closed_seat refl b.seats j in
-    ap (λ (s : Seat). s.opened) then ∙ due_open ms (get_or b.seats j closed_seat) (sym its-flag ∙ due)
+    let its-seat = seat_at (map (ticked_seat ms) b.seats) j here ∙ map_place (ticked_seat ms) closed_seat refl b.seats j in
+    grind (arith, its-seat, map_place (is_due ms) closed_seat refl b.seats j, due_open ms (get_or b.seats j closed_seat))
 
 -- and no report without audio to an open seat is refused where 24 bytes are lent
 pub single_accepted : (b : Bench) (n timestamp room : ℕ) → (seat_of b.seats n).opened ≡ true → 24 ≤ room → NoCase (report_refusals b n timestamp [] room)
 unfolding report_refusals seat_refusals
 single_accepted b n timestamp room up enough =
-    let short : length (report_bytes b n timestamp []) ≤ room = omega (arith, report_short b n timestamp) in
-    (open_is_seat b.seats n up, (ap not up, (and_none (not (squ_told b.signals)), (le-ltb room (length (report_bytes b n timestamp [])) short, tt))))
+    grind (arith, nat_tests, open_is_seat, report_short)
 
 -- ---- the tick
 

@@ -1,9 +1,9 @@
 -- Two ticks and the merged one: the same bench, but that some report sequence numbers run one further in two. Of any bench.
 use Prim.Native.Nat.{ℕ, ◌+◌}
-use mathlib.Core.Path.{◌≡◌, refl, sym, ap, ap₂}
-use mathlib.Core.Bool.{Bool, true, false, cond, ◌&&◌, ◌||◌}
+use mathlib.Core.Path.{◌≡◌, refl, ap₂}
+use mathlib.Core.Bool.{Bool, cond, ◌&&◌, ◌||◌}
+use native.Mathlib.Omega.{arith}
 use mathlib.Core.List.{List, [], ◌∷◌, map}
-use Rattle.base.proofs.Truths.{and_true}
 use Rattle.record.specs.Record.{with_seats, with_sequences}
 use Rattle.seats.specs.Ticking.{is_due, ticked_seat, ticked_bench}
 use Rattle.seats.proofs.TwoTicks.{seats_add, Fate, closed_before, closed_first, closed_second, open_still, fate}
@@ -16,19 +16,13 @@ use Rattle.record.specs.declared.whole.Bench.{Bench}
 abbrev number_after : (reported : Bool) → ℕ → ℕ
 number_after reported q = cond reported (next_sequence q) q
 
--- in two ticks that leave the seat open
-counted_twice : (d₁ d₂ : Bool) (q : ℕ) → number_after d₂ (number_after d₁ q) ≡ number_after (d₁ && (d₂ || false)) (number_after (d₁ || d₂) q)
-counted_twice true true q = refl
-counted_twice true false q = refl
-counted_twice false d₂ q = refl
-
 -- by the fate of the seat: its number runs one further if it was due in the first, and due or closed in the second
 one_number : {c₁ c₂ c d₁ d₂ d up : Bool} → Fate c₁ c₂ c d₁ d₂ d up → (q : ℕ)
     → number_after d₂ (number_after d₁ q) ≡ number_after (d₁ && (d₂ || c₂)) (number_after d q)
 one_number closed_before q = refl
 one_number closed_first q = refl
-one_number (closed_second {d₁}) q = ap (λ (t : Bool). number_after t q) (sym (and_true d₁))
-one_number (open_still {d₁} {d₂}) q = counted_twice d₁ d₂ q
+one_number closed_second q = grind arith
+one_number open_still q = grind arith
 
 module _ (x y : ℕ) where
   -- of seats and numbers however many
