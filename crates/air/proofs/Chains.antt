@@ -1,14 +1,14 @@
 -- What the private functions find, in std's words, as their chains find it.
 use Rattle.std.proofs.lemmas.Bool.Decides.{nat_tests}
-use Prim.Native.Nat.{ℕ, suc, ◌+◌, ◌≤◌, max}
-use mathlib.Core.Path.{◌≡◌, refl, sym, ap, ◌∙◌}
+use Prim.Native.Nat.{ℕ, suc, ◌+◌, ◌≤◌}
+use mathlib.Core.Path.{◌≡◌, refl, ap, ◌∙◌}
 use mathlib.Core.Bool.{Bool, true, false, cond, not, ◌&&◌}
-use Rattle.std.specs.Prelude.{Option, Some, None}
+use Rattle.std.specs.Prelude.{Some}
 use mathlib.Core.List.{List, [], ◌∷◌, ◌++◌}
 use native.Mathlib.Omega.{arith}
 use lib.Dec.{eqb, ltb}
-use lib.ListN.{length, take, drop, get_or}
-use Rattle.std.specs.List.{fold, zip, list_any, count_by, position_or_len, position, remove}
+use lib.ListN.{length, take, drop}
+use Rattle.std.specs.List.{zip, list_any, count_by, position_or_len, position, remove}
 use Rattle.std.specs.Option.{option_map_or}
 use Rattle.std.proofs.lemmas.List.{drop_more}
 use Rattle.std.proofs.lemmas.Bool.{ltb-true, ltb-false, lt-ltb, le-ltb}
@@ -20,26 +20,7 @@ use borrow.Rule.Slice.PartMut.{put_mid, mid_of}
 use Rattle.base.specs.Lists.{how_many}
 use Rattle.record.specs.declared.seat.Seat.{Seat}
 use Rattle.air.specs.Order.{to_last}
-use Rattle.air.specs.Marks.{highest, seats_at, first_at, smallest_from, sends_from}
-
-fold_max : (a : ℕ) (ranks : List ℕ) → fold max a ranks ≡ max a (highest ranks)
-unfolding highest
-fold_max a [] = omega arith
-fold_max a (r ∷ ranks) = grind (arith, fold_max (max a r) ranks)
-
-pub highest_found : (ranks : List ℕ) → highest ranks ≡ fold max 0 ranks
-highest_found ranks = grind (arith, fold_max 0 ranks)
-
-pub first_found : (r : ℕ) (order ranks : List ℕ) → first_at r order ranks ≡ option_map_or (λ i. get_or order i 0) (position (λ k. eqb k r) ranks) 0
-unfolding first_at
-first_found r [] [] = refl
-first_found r [] (k ∷ ranks) = sym (none_there (position (λ k. eqb k r) (k ∷ ranks)))
-  where
-    none_there : (o : Option ℕ) → option_map_or (λ i. get_or {A = ℕ} [] i 0) o 0 ≡ 0
-    none_there None = refl
-    none_there (Some i) = refl
-first_found r (n ∷ order) [] = refl
-first_found r (n ∷ order) (k ∷ ranks) = grind (arith, nat_tests, common_steps, first_found r order ranks)
+use Rattle.air.specs.Marks.{smallest_from, sends_from}
 
 pub marked_found : (marks : List Bool) → how_many (λ m. m) marks ≡ count_by (λ m. m) marks
 unfolding how_many
@@ -61,20 +42,7 @@ sends_at i seats (m ∷ on) h = grind (arith, common_steps, drop_more, sends_at 
 pub sends_found : (seats : List Seat) (on : List Bool) → length on ≤ length seats → sends_from 0 seats on ≡ list_any (λ p. p.0 && p.1.heard.field.ptts) (zip on seats)
 sends_found seats on h = sends_at 0 seats on (omega arith)
 
--- ---- the seats at a rank, where the order or the ranks are through
-
-pub order_through : (r : ℕ) (order ranks : List ℕ) → length order ≡ 0 → seats_at r order ranks ≡ []
-unfolding seats_at
-order_through r [] ranks h = refl
-order_through r (n ∷ order) ranks h = grind arith
-
-pub ranks_through : (r : ℕ) (order ranks : List ℕ) → length ranks ≡ 0 → seats_at r order ranks ≡ []
-unfolding seats_at
-ranks_through r [] ranks h = refl
-ranks_through r (n ∷ order) [] h = refl
-ranks_through r (n ∷ order) (k ∷ ranks) h = grind arith
-
-pub ruleset through = (order_through, ranks_through)
+pub ruleset shown = (sends_found, marked_found)
 
 -- ---- the order
 

@@ -12,7 +12,9 @@ use Rattle.record.proofs.Seats.{each_seat, seats_alike}
 use Rattle.base.proofs.Truths.{or_true}
 use borrow.Author.Tests.{ne_eqb}
 use Rattle.air.specs.Air.{among, the_first}
-use Rattle.air.specs.Marks.{seats_at, first_at, mark_all, marks_of}
+use Rattle.air.specs.Marks.{seats_at, mark_all, marks_of}
+use Rattle.air.specs.declared.air.Ranked.{Ranked}
+use Rattle.std.specs.Prelude.{Option, Some, None, find, option_map}
 
 pub among_both : (ns ms : List ℕ) (j : ℕ) → among (ns ++ ms) j ≡ among ns j || among ms j
 unfolding among
@@ -51,10 +53,13 @@ pub mark_all_of : (ns : List ℕ) → marks_of ns ≡ mark_all (replicate 8 fals
 unfolding marks_of among
 mark_all_of ns = sym (mark_list [] ns)
 
-pub mark_first_of : (r : ℕ) (order ranks : List ℕ) → marks_of (the_first (seats_at r order ranks)) ≡ with_entry (replicate 8 false) (first_at r order ranks) true
-unfolding first_at seats_at marks_of among
-mark_first_of r [] ranks = refl
-mark_first_of r (n ∷ order) [] = refl
-mark_first_of r (n ∷ order) (k ∷ ranks) = grind (arith, nat_tests, mark_one [] n, mark_first_of r order ranks)
+abbrev first_marked : Option ℕ → List Bool
+first_marked None = replicate 8 false
+first_marked (Some n) = with_entry (replicate 8 false) n true
+
+pub mark_first_of : (r : ℕ) (ks : List Ranked) → marks_of (the_first (seats_at r ks)) ≡ first_marked (option_map (λ k. k.seat) (find (λ k. eqb k.rank r) ks))
+unfolding seats_at marks_of among
+mark_first_of r [] = refl
+mark_first_of r (k ∷ ks) = grind (arith, nat_tests, mark_one [] k.seat, mark_first_of r ks)
 
 pub ruleset marked = (mark_all_of, mark_first_of)

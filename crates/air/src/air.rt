@@ -1,15 +1,21 @@
 // Who is on the air. specs/Air.antt has 01's sentences, specs/Marks.antt what is found below.
-ghost use Rattle.std.specs.Prelude.{◌≡◌, ◌&&◌, map, zip};
+ghost use Rattle.std.specs.Prelude.{◌≡◌, ◌&&◌, nat_eq, max, map, fold, find, zip, option_map};
 ghost use Rattle.std.specs.List.{list_any};
 ghost use Rattle.air.specs.Air.{rank, type_of, keyed, bench_air, aired};
-ghost use Rattle.air.specs.Marks.{standing_of, rank_of, highest, seats_at, first_at, mark_all, marks_of, leaders_at, added_at, ptts_shown};
+ghost use Rattle.air.specs.Marks.{standing, with_rank, seats_at, mark_all, marks_of, leaders_at, added_at, ptts_shown};
 
 use crate::marks::{marked, smallest};
-use crate::order::place_in;
 use packet::ptt_on;
 use record::{Air, Bench, Field, Seat, entry_of, set_entry};
 
 const COUPLING_RANK: u8 = 2;
+
+// A seat in the order of keyings, and the rank at which it takes part, 0 if it takes none.
+#[derive(Clone, Copy)]
+struct Ranked {
+    seat: u8,
+    rank: u8,
+}
 
 // Test, Coupling, Normal, Priority, Emergency, lowest first; 0 for off and for the reserved codes.
 fn rank(ptt: u8) -> u8
@@ -49,7 +55,7 @@ pub fn keyed(f: Field) -> bool
 // The rank at which a seat takes part, 0 if it takes none; with PTT off its rank is 0 anyway.
 #[tactic(auto, unfolding(crate::specs::Marks::standing))]
 fn standing(healthy: bool, s: Seat) -> u8
-    ensures { result ≡ standing_of healthy s }
+    ensures { result ≡ standing healthy s }
 {
     let said = s.heard.field;
     if healthy && s.opened && !said.pm {
@@ -59,51 +65,44 @@ fn standing(healthy: bool, s: Seat) -> u8
     }
 }
 
-// The rank at which each seat takes part, by its place.
-fn standings(healthy: bool, seats: [Seat; 8]) -> [u8; 8]
-    ensures { result ≡ map (standing_of healthy) seats }
+#[tactic(auto, unfolding(crate::specs::Marks::with_rank, record::specs::Record::seat_of))]
+fn with_rank(healthy: bool, seats: &[Seat; 8], n: u8) -> Ranked
+    ensures { result ≡ with_rank healthy seats.now n }
 {
-    seats.map(|s| standing(healthy, s))
+    Ranked {
+        seat: n,
+        rank: standing(healthy, entry_of(Seat::CLOSED, seats, n)),
+    }
 }
 
-// The rank of the seat of a number; what is no seat's number has none.
-#[tactic(auto, unfolding(crate::specs::Marks::rank_of))]
-fn rank_of(standings: [u8; 8], n: u8) -> u8
-    ensures { result ≡ rank_of standings n }
+// Each seat of the order with its rank.
+fn ranks(healthy: bool, seats: &[Seat; 8], order: [u8; 8]) -> [Ranked; 8]
+    ensures { result ≡ map (with_rank healthy seats.now) order }
 {
-    entry_of(0, &standings, n)
+    order.map(|n| with_rank(healthy, seats, n))
 }
 
-// The rank at each place of the order.
-fn ranks(standings: [u8; 8], order: [u8; 8]) -> [u8; 8]
-    ensures { result ≡ map (rank_of standings) order }
+fn highest(ranks: &[Ranked]) -> u8
+    ensures { result ≡ fold max 0 (map (λ k. k.rank) ranks.now) }
 {
-    order.map(|n| rank_of(standings, n))
+    ranks.iter().map(|k| k.rank).fold(0, u8::max)
 }
 
-#[tactic(auto, using(crate::proofs::Chains::highest_found))]
-fn highest(ranks: [u8; 8]) -> u8
-    ensures { result ≡ highest ranks }
+// The seat at the rank whose keying began first.
+fn first_at(rank: u8, ranks: &[Ranked]) -> Option<u8>
+    ensures { result ≡ option_map (λ k. k.seat) (find (λ k. nat_eq k.rank rank) ranks.now) }
 {
-    ranks.iter().copied().fold(0, u8::max)
-}
-
-// The seat at the rank whose keying began first, 0 if there is none.
-#[tactic(auto, using(crate::proofs::Chains::first_found))]
-fn first_at(rank: u8, order: [u8; 8], ranks: [u8; 8]) -> u8
-    ensures { result ≡ first_at rank order ranks }
-{
-    place_in(&ranks, rank).map_or(0, |i| order[i])
+    ranks.iter().find(|k| k.rank == rank).map(|k| k.seat)
 }
 
 // The marks with every seat at the rank.
-#[tactic(auto, using(crate::proofs::Chains::through), unfolding(crate::specs::Marks::mark_all, crate::specs::Marks::seats_at))]
-fn mark_at(mut marks: [bool; 8], rank: u8, order: [u8; 8], ranks: [u8; 8]) -> [bool; 8]
-    ensures { result ≡ mark_all marks (seats_at rank order ranks) }
+#[tactic(auto, unfolding(crate::specs::Marks::mark_all, crate::specs::Marks::seats_at))]
+fn mark_at(mut marks: [bool; 8], rank: u8, ranks: &[Ranked]) -> [bool; 8]
+    ensures { result ≡ mark_all marks (seats_at rank ranks.now) }
 {
-    for (n, r) in order.iter().zip(&ranks) {
-        if *r == rank {
-            set_entry(&mut marks, *n, true);
+    for k in ranks {
+        if k.rank == rank {
+            set_entry(&mut marks, k.seat, true);
         }
     }
     marks
@@ -111,51 +110,47 @@ fn mark_at(mut marks: [bool; 8], rank: u8, order: [u8; 8], ranks: [u8; 8]) -> [b
 
 // Who is on the air at the top rank: by summation all of it, by lockout the first.
 #[tactic(auto, using(crate::proofs::Marking::marked), unfolding(crate::specs::Marks::leaders_at, crate::specs::Marks::mark_all))]
-fn leading(equal_summation: bool, top: u8, order: [u8; 8], ranks: [u8; 8]) -> [bool; 8]
-    ensures { result ≡ marks_of (leaders_at equal_summation top order ranks) }
+fn leading(equal_summation: bool, top: u8, ranks: &[Ranked]) -> [bool; 8]
+    ensures { result ≡ marks_of (leaders_at equal_summation top ranks.now) }
 {
     let mut leads = [false; 8];
     if top == 0 {
         return leads;
     }
     if equal_summation {
-        return mark_at(leads, top, order, ranks);
+        return mark_at(leads, top, ranks);
     }
-    set_entry(&mut leads, first_at(top, order, ranks), true);
+    if let Some(first) = first_at(top, ranks) {
+        set_entry(&mut leads, first, true);
+    }
     leads
 }
 
 // With coupling summation the participants keyed Coupling are added when the top rank is above Coupling.
 #[tactic(auto, unfolding(crate::specs::Marks::added_at, crate::specs::Marks::mark_all))]
-fn with_added(
-    leads: [bool; 8],
-    coupling_summation: bool,
-    top: u8,
-    order: [u8; 8],
-    ranks: [u8; 8],
-) -> [bool; 8]
-    ensures { result ≡ mark_all leads (added_at coupling_summation top order ranks) }
+fn with_added(leads: [bool; 8], coupling_summation: bool, top: u8, ranks: &[Ranked]) -> [bool; 8]
+    ensures { result ≡ mark_all leads (added_at coupling_summation top ranks.now) }
 {
     if coupling_summation && COUPLING_RANK < top {
-        mark_at(leads, COUPLING_RANK, order, ranks)
+        mark_at(leads, COUPLING_RANK, ranks)
     } else {
         leads
     }
 }
 
 // A seat shows its PTTS only while it is on the air.
-fn any_sends(seats: [Seat; 8], on: [bool; 8]) -> bool
-    ensures { result ≡ list_any (λ p. p.0 && p.1.heard.field.ptts) (zip on seats) }
+fn any_sends(seats: &[Seat; 8], on: &[bool; 8]) -> bool
+    ensures { result ≡ list_any (λ p. p.0 && p.1.heard.field.ptts) (zip on.now seats.now) }
 {
     on.iter()
-        .zip(&seats)
+        .zip(seats)
         .any(|(up, s)| *up && s.heard.field.ptts)
 }
 
 // Two or more seats on the air, or one that sent PTTS.
-#[tactic(auto, using(crate::proofs::Chains::sends_found, crate::proofs::Chains::marked_found), unfolding(crate::specs::Marks::ptts_shown))]
-fn ptts_shown(seats: [Seat; 8], on: [bool; 8]) -> bool
-    ensures { result ≡ ptts_shown seats on }
+#[tactic(auto, using(crate::proofs::Chains::shown), unfolding(crate::specs::Marks::ptts_shown))]
+fn ptts_shown(seats: &[Seat; 8], on: &[bool; 8]) -> bool
+    ensures { result ≡ ptts_shown seats.now on.now }
 {
     2 <= marked(on) || any_sends(seats, on)
 }
@@ -175,17 +170,15 @@ pub fn aired(b: Bench) -> Bench
 fn bench_air(b: Bench) -> Air
     ensures { result ≡ bench_air b }
 {
-    let order = b.order;
-    let standings = standings(b.healthy, b.seats);
-    let ranks = ranks(standings, order);
-    let top = highest(ranks);
-    let leads = leading(b.setup.equal_summation, top, order, ranks);
-    let on = with_added(leads, b.setup.coupling_summation, top, order, ranks);
+    let ranks = ranks(b.healthy, &b.seats, b.order);
+    let top = highest(&ranks);
+    let leads = leading(b.setup.equal_summation, top, &ranks);
+    let on = with_added(leads, b.setup.coupling_summation, top, &ranks);
     Air {
         on,
         leads,
-        id: smallest(leads),
+        id: smallest(&leads),
         ptt: type_of(top),
-        ptts: ptts_shown(b.seats, on),
+        ptts: ptts_shown(&b.seats, &on),
     }
 }

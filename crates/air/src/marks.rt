@@ -5,10 +5,10 @@ ghost use Rattle.air.specs.Marks.{smallest_from};
 
 // The smallest seat that is marked, 0 if none is.
 #[tactic(auto, using(crate::proofs::Chains::smallest_found))]
-pub(crate) fn smallest(marks: [bool; 8]) -> u8
-    ensures { result ≡ smallest_from 1 marks }
+pub(crate) fn smallest(marks: &[bool; 8]) -> u8
+    ensures { result ≡ smallest_from 1 marks.now }
 {
-    first_mark(&marks).map_or(0, |i| i as u8 + 1)
+    first_mark(marks).map_or(0, |i| i as u8 + 1)
 }
 
 fn first_mark(marks: &[bool]) -> Option<usize>
@@ -19,8 +19,8 @@ fn first_mark(marks: &[bool]) -> Option<usize>
 
 // How many are marked.
 #[tactic(auto, using(crate::proofs::Chains::marked_found))]
-pub(crate) fn marked(marks: [bool; 8]) -> usize
-    ensures { result ≡ how_many (λ m. m) marks }
+pub(crate) fn marked(marks: &[bool]) -> usize
+    ensures { result ≡ how_many (λ m. m) marks.now }
 {
     marks.iter().filter(|m| **m).count()
 }

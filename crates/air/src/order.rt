@@ -17,7 +17,7 @@ pub fn moved_last(mut order: [u8; 8], n: u8) -> [u8; 8]
 }
 
 // Where a number stands first in a row.
-pub(crate) fn place_in(row: &[u8], n: u8) -> Option<usize>
+fn place_in(row: &[u8], n: u8) -> Option<usize>
     ensures { result ≡ position (λ k. nat_eq k n) row.now }
 {
     row.iter().position(|k| *k == n)
