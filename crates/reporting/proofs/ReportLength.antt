@@ -11,7 +11,6 @@ use Rattle.base.proofs.Truths.{bit_most}
 use Rattle.packet.specs.Items.{rssi}
 use Rattle.packet.specs.Quality.{quality}
 use Rattle.packet.specs.declared.message.Items.{Items}
-use Rattle.packet.specs.Messages.{from_rx}
 use Rattle.writer.specs.Writing.{rising_items, item_bytes, fewest_words}
 use Rattle.writer.proofs.WrittenLaws.{encoded_length}
 use Rattle.record.specs.Kind.{kind_of, has_one_side, side_told}
@@ -34,9 +33,7 @@ words_told squ kind standby q = grind arith
 pub report_long : (b : Bench) (n timestamp : ℕ) (sound : List ℕ)
     → length (report_bytes b n timestamp sound) ≡ 20 + 4 * bit (two_items b) + length sound
 unfolding report_bytes report_of items_told
-report_long b n timestamp sound =
-    let words = words_told (squ_told b.signals) (kind_of b.setup.kind) b.standby (quality b.level) in
-    omega (arith, encoded_length b.setup.ext (from_rx (report_of b n timestamp)) sound)
+report_long b n timestamp sound = grind (arith, encoded_length, words_told (squ_told b.signals) (kind_of b.setup.kind) b.standby (quality b.level))
 
 -- 24 bytes hold every report without audio
 pub report_short : (b : Bench) (n timestamp : ℕ) → length (report_bytes b n timestamp []) ≤ 24

@@ -26,9 +26,6 @@ use Rattle.writer.proofs.WrittenLaws.{encoded_length}
 pub no_audio : (k : ℕ) → audio_writable k ≡ false → (k ≡ 0 → ⊥) × (k ≡ 80 → ⊥) × (k ≡ 160 → ⊥) × (k ≡ 240 → ⊥)
 no_audio k e = (λ h. grind (arith, nat_tests), λ h. grind (arith, nat_tests), λ h. grind (arith, nat_tests), λ h. grind (arith, nat_tests))
 
-pub not_audio : (k : ℕ) → (k ≡ 0 → ⊥) → (k ≡ 80 → ⊥) → (k ≡ 160 → ⊥) → (k ≡ 240 → ⊥) → audio_writable k ≡ false
-not_audio k a c d e = grind (arith, nat_tests)
-
 -- ---- 27
 
 module _ (m : Message) (sound : List ℕ) (room : ℕ) where
