@@ -5,7 +5,7 @@ ghost use Rattle.air.specs.Air.{rank, type_of, keyed, bench_air, aired};
 ghost use Rattle.air.specs.Marks.{standing, with_rank, seats_at, mark_all, marks_of, leaders_at, added_at, ptts_shown};
 
 use crate::marks::{marked, smallest};
-use packet::ptt_on;
+use packet::{ptt, ptt_on};
 use record::{Air, Bench, Field, Seat, entry_of, set_entry};
 
 const COUPLING_RANK: u8 = 2;
@@ -22,12 +22,12 @@ fn rank(ptt: u8) -> u8
     ensures { result ≡ rank ptt }
 {
     match ptt {
-        5 => 1,
-        2 => 2,
-        1 => 3,
-        3 => 4,
-        4 => 5,
-        0 | 6..=255 => 0,
+        ptt::TEST => 1,
+        ptt::COUPLING => 2,
+        ptt::NORMAL => 3,
+        ptt::PRIORITY => 4,
+        ptt::EMERGENCY => 5,
+        ptt::OFF | 6..=255 => 0,
     }
 }
 
@@ -36,12 +36,12 @@ fn type_of(rank: u8) -> u8
     ensures { result ≡ type_of rank }
 {
     match rank {
-        1 => 5,
-        2 => 2,
-        3 => 1,
-        4 => 3,
-        5 => 4,
-        0 | 6..=255 => 0,
+        1 => ptt::TEST,
+        2 => ptt::COUPLING,
+        3 => ptt::NORMAL,
+        4 => ptt::PRIORITY,
+        5 => ptt::EMERGENCY,
+        0 | 6..=255 => ptt::OFF,
     }
 }
 

@@ -8,18 +8,10 @@ ghost use Rattle.hearing.specs.Pieces.{message_verdict};
 
 use crate::memory::missing_before;
 use base::{late, other_ssrc};
-use packet::{Refusal, Tx, ptt_on};
+use packet::{Refusal, Tx, ptt, ptt_on};
 use record::kind::{item_barred, kind_of};
 use record::{Seat, Setup, lesson_seat};
-use seats::opening::{may_key, own_id};
-
-// PTT types.
-const COUPLING: u8 = 2;
-
-const TEST: u8 = 5;
-
-// The call type TxRx, as a seat keeps it.
-const TX_RX: u8 = 2;
+use seats::opening::{TX_RX, may_key, own_id};
 
 // Of heard plus missing, the most that a seat counts.
 const MOST: u64 = 4000000000;
@@ -59,8 +51,8 @@ fn keying_barred(lesson: bool, call: u8, m: Tx) -> bool
 {
     let on = ptt_on(m.ptt);
     (on && !may_key(call))
-        || (m.ptt == COUPLING && call == TX_RX)
-        || (lesson && on && m.ptt != TEST)
+        || (m.ptt == ptt::COUPLING && call == TX_RX)
+        || (lesson && on && m.ptt != ptt::TEST)
 }
 
 // 22: the seat's own ptt-id, or 0 with PTT off.

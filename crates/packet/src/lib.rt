@@ -6,10 +6,11 @@
 
 pub mod level;
 pub mod message;
+pub mod ptt;
 pub mod refusal;
 pub mod rules;
 
 pub use level::quality;
 pub use message::{Direction, Items, Message, Rx, Side, Sqi, Tx};
 pub use refusal::{Refusal, cause, number};
-pub use rules::{audio_length, ptt_on, sqi_allowed};
+pub use rules::{AUDIO, R2S, audio_length, ptt_on, sqi_allowed};

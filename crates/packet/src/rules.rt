@@ -3,6 +3,13 @@ ghost use Rattle.std.specs.Prelude.{◌≡◌};
 ghost use Rattle.packet.specs.Items.{sqi_allowed};
 ghost use Rattle.packet.specs.Packet.{audio_length, ptt_on};
 
+use crate::ptt;
+
+// The payload types.
+pub const AUDIO: u8 = 8;
+
+pub const R2S: u8 = 123;
+
 // The method RSSI.
 const RSSI: u8 = 0;
 
@@ -28,5 +35,5 @@ pub fn audio_length(n: usize) -> bool
 pub fn ptt_on(ptt: u8) -> bool
     ensures { result ≡ ptt_on ptt }
 {
-    matches!(ptt, 1..=5)
+    matches!(ptt, ptt::NORMAL..=ptt::TEST)
 }

@@ -5,12 +5,7 @@ ghost use Rattle.packet.specs.Refusals.{answer_of};
 ghost use Rattle.reader.specs.Pieces.{head_verdict, extension_verdict};
 
 use base::{byte_at, number16_at};
-use packet::Refusal;
-
-// The payload types.
-pub(crate) const AUDIO: u8 = 8;
-
-const R2S: u8 = 123;
+use packet::{AUDIO, R2S, Refusal};
 
 // 1 to 5: the RTP head.
 #[tactic(auto, using(base::proofs::Tests::tests), unfolding(crate::specs::Pieces::head_verdict, crate::specs::Reading::reader_refusals))]

@@ -8,12 +8,10 @@ ghost use Rattle.packet.specs.Refusals.{answer_of};
 ghost use Rattle.reader.specs.Reading.{read, read_tx, read_rx, items_here, message_of};
 ghost use Rattle.reader.specs.Pieces.{content_answer};
 
-use crate::frame::{
-    AUDIO, extension_verdict, field, head_verdict, payload_at, payload_type, words_at,
-};
+use crate::frame::{extension_verdict, field, head_verdict, payload_at, payload_type, words_at};
 use base::{number16_at, number32_at, part};
 use items::items_in;
-use packet::{Direction, Items, Message, Refusal, Rx, Tx, audio_length};
+use packet::{AUDIO, Direction, Items, Message, Refusal, Rx, Tx, audio_length, ptt};
 
 // Reads a packet from a voice switch.
 #[tactic(auto, unfolding(crate::specs::Reading::read_tx))]
@@ -79,7 +77,7 @@ fn items_here(d: Direction, p: &[u8]) -> Option<Items>
 fn field_allowed(d: Direction, f: u16) -> bool
     ensures { result ≡ field_allowed d f }
 {
-    let known = f / 8192 <= 5;
+    let known = f / 8192 <= u16::from(ptt::TEST);
     match d {
         Direction::Tx => known && f / 4096 % 2 == 0 && f / 2 % 8 == 0,
         Direction::Rx => known && f / 2 % 4 == 0,

@@ -19,6 +19,11 @@ pub enum CallType {
     Coupling = 3,
 }
 
+// The codes that a seat keeps of the call types that may key.
+pub const TX_RX: u8 = CallType::TxRx as u8;
+
+pub const COUPLING: u8 = CallType::Coupling as u8;
+
 // R2S period 20 to 1000 ms, multiplier 2 to 50.
 const SHORTEST: u16 = 20;
 
@@ -142,7 +147,7 @@ fn call_code(call: CallType) -> u8
 pub fn may_key(call: u8) -> bool
     ensures { result ≡ may_key call }
 {
-    matches!(call, 2 | 3)
+    matches!(call, TX_RX | COUPLING)
 }
 
 // The ptt-id of a seat: its number for TxRx and Coupling, else 0.
@@ -168,5 +173,5 @@ fn asks_coupling(r: Request) -> bool
 fn any_coupling(seats: [Seat; 8]) -> bool
     ensures { result ≡ list_any holds_coupling seats }
 {
-    seats.iter().any(|s| s.opened && s.call == 3)
+    seats.iter().any(|s| s.opened && s.call == COUPLING)
 }

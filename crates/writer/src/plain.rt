@@ -7,7 +7,7 @@ ghost use Rattle.writer.specs.Pieces.{padded};
 ghost use Rattle.writer.specs.Writing.{rising_items, item_bytes, side_listed, fewest_words, field_of, words_of, kind_for, head_of, encode};
 
 use base::copy_in;
-use packet::{Items, Message, Side, Sqi};
+use packet::{AUDIO, Items, Message, R2S, Side, Sqi};
 
 // The first byte of the packet: version 2, padding 0, extension 1, CC 0.
 const FIRST: u8 = 144;
@@ -60,7 +60,7 @@ fn heads(ext: u16, m: Message, kind: u8, words: u16) -> [u8; 16]
 fn kind_for(audio: usize) -> u8
     ensures { result ≡ kind_for audio }
 {
-    if audio == 0 { 123 } else { 8 }
+    if audio == 0 { R2S } else { AUDIO }
 }
 
 // The words, and zeros up to the length of two.

@@ -5,7 +5,7 @@ ghost use Rattle.packet.specs.Refusals.{answer_of};
 ghost use Rattle.writer.specs.Writing.{writable, write, buffered, put, after_put};
 
 use crate::plain::{fewest_words, put_packet};
-use packet::{Message, Refusal, Rx, Tx, audio_length, sqi_allowed};
+use packet::{Message, Refusal, Rx, Tx, audio_length, ptt, sqi_allowed};
 
 // Writes a packet from a voice switch, and answers its length.
 pub fn write_tx(ext: u16, m: Tx, audio: &[u8], out: &mut [u8]) -> Result<usize, Refusal>
@@ -62,7 +62,7 @@ fn put(ext: u16, m: Message, audio: &[u8], out: &mut [u8]) -> Result<usize, Refu
 fn writable(m: Message, n: usize) -> bool
     ensures { result ≡ writable m n }
 {
-    m.ptt <= 5
+    m.ptt <= ptt::TEST
         && m.id <= 63
         && m.items
             .sqi
