@@ -2,7 +2,6 @@ pub mod Tests
 pub mod Truths
 pub mod Places
 pub mod Parts
-pub mod Loops
 pub mod Lists
 pub mod Numbers
 pub mod Buffers

@@ -1,13 +1,11 @@
--- How many members of a list pass a test: at most all, of two lists joined, of a list whose members were all changed, and turn by turn in a loop.
-use Prim.Native.Nat.{ℕ, ◌+◌, ◌<◌, ◌≤◌}
+-- How many members of a list pass a test: at most all; of two lists joined; and of a list whose members were all changed.
+use Prim.Native.Nat.{◌+◌, ◌≤◌}
 use mathlib.Core.Path.{◌≡◌, refl}
 use mathlib.Core.Bool.{Bool}
 use mathlib.Core.List.{List, [], ◌∷◌, ◌++◌, map}
 use native.Mathlib.Omega.{arith}
-use lib.ListN.{length, drop, get_or}
-use Rattle.base.specs.Bytes.{bit}
+use lib.ListN.{length}
 use Rattle.base.specs.Lists.{how_many}
-use Rattle.base.proofs.Loops.{left_more, left_done}
 use Rattle.base.proofs.Truths.{bit_most}
 
 module _ {A : Type 0} (test : A → Bool) where
@@ -25,14 +23,3 @@ module _ {A : Type 0} (test : A → Bool) where
   unfolding how_many
   many_changed f [] = refl
   many_changed f (x ∷ l) = let rest = many_changed f l in omega arith
-
-  -- k were counted before place i
-  module _ (l : List A) (i k : ℕ) {n : ℕ} (long : length l ≡ n) where
-    pub many_more : (z : A) (one : ℕ) → i < n → one ≡ bit (test (get_or l i z)) → k + how_many test (drop i l) ≡ how_many test l
-        → k + one + how_many test (drop (i + 1) l) ≡ how_many test l
-    unfolding how_many
-    many_more z one h e so_far = omega (arith, rw (left_more l i long z h) at so_far)
-
-    pub many_done : n ≤ i → k + how_many test (drop i l) ≡ how_many test l → k ≡ how_many test l
-    unfolding how_many
-    many_done h so_far = omega (arith, rw (left_done l i long h) at so_far)
