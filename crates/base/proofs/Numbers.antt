@@ -30,9 +30,6 @@ module _ (s : List ℕ) (small : Bytes s) where
   pub number16_small : (i : ℕ) → number16 s i < 65536
   number16_small i = omega (arith, small i, small (i + 1))
 
-  pub number32_small : (i : ℕ) → number32 s i < 4294967296
-  number32_small i = omega (arith, number16_small i, number16_small (i + 2))
-
   pub number16_back : (i : ℕ) → i + 1 < length s → take 2 (drop i s) ≡ bytes16 (number16 s i)
   number16_back i h =
       taken_in_two 1 1 i s

@@ -41,19 +41,6 @@ pub or_right : (a b : Bool) → a || b ≡ false → b ≡ false
 or_right true b e = cc
 or_right false b e = e
 
--- a choice whose test is known
-module _ {A : Type 0} {t : Bool} (a b : A) where
-  pub choice_true : t ≡ true → a ≡ cond t a b
-  choice_true e = rw e
-
-  pub choice_false : t ≡ false → b ≡ cond t a b
-  choice_false e = rw e
-
--- a function of a choice is a choice of its values
-pub push : {A B : Type 0} (f : A → B) (t : Bool) (a b : A) → f (cond t a b) ≡ cond t (f a) (f b)
-push f true a b = refl
-push f false a b = refl
-
 -- a choice between the same
 pub either_way : {A : Type 0} (t : Bool) (a : A) → cond t a a ≡ a
 either_way true a = refl

@@ -29,10 +29,6 @@ judged_one P cs a refusing accepting = judged_both (λ x y. P x) cs a a refusing
 pub judged_mapped : {A B : Type 0} (f : A → B) (cs : List Case) (a : A) → mapped f (judged cs a) ≡ judged cs (f a)
 judged_mapped f cs a = judged_both (λ x y. mapped f x ≡ y) cs a (f a) (λ n c. refl) (λ none. refl)
 
--- so the verdict decides
-pub by_verdict : {A : Type 0} (cs : List Case) (a : A) → judged cs a ≡ mapped (λ (u : Unit {0}). a) (judged cs tt)
-by_verdict cs a = sym (judged_mapped (λ (u : Unit {0}). a) cs tt)
-
 -- no case holds: the value is accepted
 pub accepts : {A : Type 0} (a : A) (cs : List Case) → NoCase cs → judged cs a ≡ accepted a
 accepts a [] h = refl
