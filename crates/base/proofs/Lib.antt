@@ -2,6 +2,7 @@ pub mod Tests
 pub mod Truths
 pub mod Places
 pub mod Parts
+pub mod Loops
 pub mod Lists
 pub mod Numbers
 pub mod Buffers

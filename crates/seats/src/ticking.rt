@@ -83,19 +83,13 @@ pub fn due_seats(seats: [Seat; 8], ms: u16) -> [bool; 8]
     seats.map(|s| is_due(s, ms))
 }
 
-fn ticked_seats(seats: [Seat; 8], ms: u16) -> [Seat; 8]
-    ensures { result ≡ map (ticked_seat ms) seats }
-{
-    seats.map(|s| ticked_seat(s, ms))
-}
-
 // The bench when ms have passed, but for what it keeps of the air.
 #[tactic(auto, unfolding(crate::specs::Ticking::ticked_bench))]
-pub fn ticked_bench(b: Bench, ms: u16) -> Bench
+pub fn ticked_bench(mut b: Bench, ms: u16) -> Bench
     ensures { result ≡ ticked_bench b ms }
 {
-    Bench {
-        seats: ticked_seats(b.seats, ms),
-        ..b
+    for s in b.seats.iter_mut() {
+        *s = ticked_seat(*s, ms);
     }
+    b
 }
