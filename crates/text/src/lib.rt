@@ -4,4 +4,4 @@
 
 pub mod out;
 
-pub use out::{put, put_bit, put_byte, put_bytes, put_hex, put_number};
+pub use out::Line;
