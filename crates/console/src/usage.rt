@@ -1,56 +1,35 @@
 // The calls as they are to be written, for `help` and for what a wrong line is told.
-use grammar::named;
+use grammar::{Name, named};
 use text::{put, put_byte};
 
-// How many calls there are.
-const CALLS: usize = 15;
-
-fn usage(out: &mut [u8], at: usize, call: usize) -> usize {
+fn usage(call: Name) -> &'static [u8] {
     match call {
-        0 => put(
-            out,
-            at,
-            b"setup SEATS EXT single|pair|shared lockout|summation interruption|summation",
-        ),
-        1 => put(
-            out,
-            at,
-            b"open SEAT idle|rxonly|txrx|coupling PERIOD MULTIPLIER SSRC SEQUENCE",
-        ),
-        2 => put(out, at, b"close SEAT"),
-        3 => put(out, at, b"tick MS TIMESTAMP ROOM"),
-        4 => put(out, at, b"packet SEAT HEX"),
-        5 => put(out, at, b"report SEAT TIMESTAMP AUDIO ROOM"),
-        6 => put(out, at, b"received COUNT LEVEL"),
-        7 => put(out, at, b"transmitter healthy|unhealthy"),
-        8 => put(out, at, b"side main|standby"),
-        9 => put(out, at, b"read tx|rx HEX"),
-        10 => put_write(out, at),
-        11 => put(out, at, b"quality LEVEL"),
-        12 => put(out, at, b"air"),
-        13 => put(out, at, b"totals SEAT"),
-        14 => put(out, at, b"help"),
-        _ => put(out, at, b"a call; help prints them"),
+        Name::Setup => {
+            b"setup SEATS EXT single|pair|shared lockout|summation interruption|summation"
+        }
+        Name::Open => b"open SEAT idle|rxonly|txrx|coupling PERIOD MULTIPLIER SSRC SEQUENCE",
+        Name::Close => b"close SEAT",
+        Name::Tick => b"tick MS TIMESTAMP ROOM",
+        Name::Packet => b"packet SEAT HEX",
+        Name::Report => b"report SEAT TIMESTAMP AUDIO ROOM",
+        Name::Received => b"received COUNT LEVEL",
+        Name::Transmitter => b"transmitter healthy|unhealthy",
+        Name::Side => b"side main|standby",
+        Name::Read => b"read tx|rx HEX",
+        Name::Write => {
+            b"write tx SEQ TS SSRC PTT ID PM PTTS CLD MSS AUDIO ROOM or write rx SEQ TS SSRC PTT SQU ID PM PTTS SCT SQI MSS AUDIO ROOM"
+        }
+        Name::Quality => b"quality LEVEL",
+        Name::Air => b"air",
+        Name::Totals => b"totals SEAT",
+        Name::Help => b"help",
     }
-}
-
-fn put_write(out: &mut [u8], at: usize) -> usize {
-    let next = put(
-        out,
-        at,
-        b"write tx SEQ TS SSRC PTT ID PM PTTS CLD MSS AUDIO ROOM",
-    );
-    put(
-        out,
-        next,
-        b" or write rx SEQ TS SSRC PTT SQU ID PM PTTS SCT SQI MSS AUDIO ROOM",
-    )
 }
 
 // What a line that is no call is told.
 pub(crate) fn expected(out: &mut [u8], s: &[u8]) -> usize {
     let at = put(out, 0, b"error: expected ");
-    usage(out, at, named(s))
+    put(out, at, named(s).map_or(b"a call; help prints them", usage))
 }
 
 pub(crate) fn too_long(out: &mut [u8]) -> usize {
@@ -59,12 +38,10 @@ pub(crate) fn too_long(out: &mut [u8]) -> usize {
 
 // Every call, one a line.
 pub(crate) fn help(out: &mut [u8]) -> usize {
-    let mut at = usage(out, 0, 0);
-    let mut call = 1;
-    while call < CALLS {
-        let next = put_byte(out, at, b'\n');
-        at = usage(out, next, call);
-        call += 1;
+    let mut at = put(out, 0, usage(Name::Setup));
+    for call in &Name::ALL[1..] {
+        at = put_byte(out, at, b'\n');
+        at = put(out, at, usage(*call));
     }
     at
 }

@@ -1,4 +1,1 @@
-pub mod Saying
-pub mod Seats
-pub mod Parts
 pub mod Together

@@ -3,6 +3,46 @@ use packet::{Rx, Tx};
 use record::Kind;
 use seats::Request;
 
+// The calls by name, in the order of `help`.
+#[derive(Clone, Copy)]
+pub enum Name {
+    Setup,
+    Open,
+    Close,
+    Tick,
+    Packet,
+    Report,
+    Received,
+    Transmitter,
+    Side,
+    Read,
+    Write,
+    Quality,
+    Air,
+    Totals,
+    Help,
+}
+
+impl Name {
+    pub const ALL: [Name; 15] = [
+        Name::Setup,
+        Name::Open,
+        Name::Close,
+        Name::Tick,
+        Name::Packet,
+        Name::Report,
+        Name::Received,
+        Name::Transmitter,
+        Name::Side,
+        Name::Read,
+        Name::Write,
+        Name::Quality,
+        Name::Air,
+        Name::Totals,
+        Name::Help,
+    ];
+}
+
 // Bytes that the line gives, a packet or audio, lie in a buffer apart; here is how many they are.
 #[derive(Clone, Copy)]
 pub enum Call {
@@ -57,7 +97,7 @@ pub enum Call {
     Wrong,
 }
 
-// A set-up whose lesson seats are bits, seat 1 the lowest.
+// A set-up. Lesson seats are bits, seat 1 the lowest (kept: `seats_in` says them so).
 #[derive(Clone, Copy)]
 pub struct SetupSaid {
     pub lessons: u8,

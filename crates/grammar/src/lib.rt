@@ -10,5 +10,5 @@ mod messages;
 mod pieces;
 mod requests;
 
-pub use call::{Call, Lent, ROOM, SetupSaid};
+pub use call::{Call, Lent, Name, ROOM, SetupSaid};
 pub use line::{named, parsed};

@@ -1,24 +1,12 @@
 // The messages that `write` is given.
 ghost use Rattle.std.specs.Prelude.{◌≡◌};
-ghost use Rattle.grammar.specs.Said.{flag_in, climax_in, side_in, quality_in, sqi_in};
-ghost use Rattle.grammar.specs.Pieces.{bool_said, head_said, head_in, key_said, key_in, climax_said, side_said, sqi_said, tx_said, tx_in, rx_said, rx_in};
+ghost use Rattle.grammar.specs.Said.{climax_in, side_in, quality_in, sqi_in};
+ghost use Rattle.grammar.specs.Pieces.{head_in, key_in, tx_in, rx_in};
 
-use crate::pieces::{BoolRead, second};
+use crate::pieces::{flag, one_of};
 use base::part;
-use packet::{ClimaxItem, Rx, SideItem, SqiItem, Tx};
-use words::{ByteRead, HalfRead, NumberRead, byte, choice, dash, half, number, place_of, word};
-
-#[derive(Clone, Copy)]
-pub(crate) enum TxSaid {
-    Is(Tx),
-    Not,
-}
-
-#[derive(Clone, Copy)]
-pub(crate) enum RxSaid {
-    Is(Rx),
-    Not,
-}
+use packet::{Rx, Side, Sqi, Tx};
+use words::{byte, dash, half, number, place_of, word};
 
 #[derive(Clone, Copy)]
 struct HeadSaid {
@@ -29,157 +17,83 @@ struct HeadSaid {
 }
 
 #[derive(Clone, Copy)]
-enum HeadRead {
-    Is(HeadSaid),
-    Not,
-}
-
-#[derive(Clone, Copy)]
 struct KeySaid {
     id: u8,
     pm: bool,
     ptts: bool,
 }
 
-#[derive(Clone, Copy)]
-enum KeyRead {
-    Is(KeySaid),
-    Not,
-}
-
-#[derive(Clone, Copy)]
-enum ClimaxRead {
-    Is(ClimaxItem),
-    Not,
-}
-
-#[derive(Clone, Copy)]
-enum SideRead {
-    Is(SideItem),
-    Not,
-}
-
-#[derive(Clone, Copy)]
-enum SqiRead {
-    Is(SqiItem),
-    Not,
-}
-
-fn flag(w: &[u8]) -> BoolRead
-    ensures { bool_said result ≡ flag_in w.now }
-{
-    second(w, b"0 1")
-}
-
 // SEQ TS SSRC PTT, from word 2 on.
-fn head(s: &[u8]) -> HeadRead
-    ensures { head_said result ≡ head_in s.now }
+#[tactic(auto, unfolding(crate::specs::Pieces::head_in))]
+fn head(s: &[u8]) -> Option<HeadSaid>
+    ensures { result ≡ head_in s.now }
 {
-    let HalfRead::Is(sequence) = half(word(s, 2)) else {
-        return HeadRead::Not;
-    };
-    let NumberRead::Is(timestamp) = number(word(s, 3)) else {
-        return HeadRead::Not;
-    };
-    let NumberRead::Is(ssrc) = number(word(s, 4)) else {
-        return HeadRead::Not;
-    };
-    let ByteRead::Is(ptt) = byte(word(s, 5)) else {
-        return HeadRead::Not;
-    };
-    HeadRead::Is(HeadSaid {
-        sequence,
-        timestamp,
-        ssrc,
-        ptt,
+    Some(HeadSaid {
+        sequence: half(word(s, 2))?,
+        timestamp: number(word(s, 3))?,
+        ssrc: number(word(s, 4))?,
+        ptt: byte(word(s, 5))?,
     })
 }
 
 // ID PM PTTS
-fn key(id: &[u8], pm: &[u8], ptts: &[u8]) -> KeyRead
-    ensures { key_said result ≡ key_in id.now pm.now ptts.now }
+#[tactic(auto, unfolding(crate::specs::Pieces::key_in))]
+fn key(id: &[u8], pm: &[u8], ptts: &[u8]) -> Option<KeySaid>
+    ensures { result ≡ key_in id.now pm.now ptts.now }
 {
-    let ByteRead::Is(id) = byte(id) else {
-        return KeyRead::Not;
-    };
-    let BoolRead::Is(pm) = flag(pm) else {
-        return KeyRead::Not;
-    };
-    let BoolRead::Is(ptts) = flag(ptts) else {
-        return KeyRead::Not;
-    };
-    KeyRead::Is(KeySaid { id, pm, ptts })
+    Some(KeySaid {
+        id: byte(id)?,
+        pm: flag(pm)?,
+        ptts: flag(ptts)?,
+    })
 }
 
 // CLD
-fn climax(w: &[u8]) -> ClimaxRead
-    ensures { climax_said result ≡ climax_in w.now }
+#[tactic(auto, unfolding(crate::specs::Said::climax_in))]
+fn climax(w: &[u8]) -> Option<Option<u8>>
+    ensures { result ≡ climax_in w.now }
 {
-    let none = dash(w);
-    if none {
-        return ClimaxRead::Is(ClimaxItem::Absent);
-    }
-    match byte(w) {
-        ByteRead::Is(delay) => ClimaxRead::Is(ClimaxItem::Is(delay)),
-        ByteRead::Not => ClimaxRead::Not,
+    if dash(w) {
+        Some(None)
+    } else {
+        Some(Some(byte(w)?))
     }
 }
 
 // MSS
-fn side(w: &[u8]) -> SideRead
-    ensures { side_said result ≡ side_in w.now }
+fn side(w: &[u8]) -> Option<Option<Side>>
+    ensures { result ≡ side_in w.now }
 {
-    match choice(w, b"- 0 1") {
-        0 => SideRead::Is(SideItem::Absent),
-        1 => SideRead::Is(SideItem::Main),
-        2 => SideRead::Is(SideItem::Standby),
-        _ => SideRead::Not,
-    }
+    one_of(w, b"- 0 1", &[None, Some(Side::Main), Some(Side::Standby)])
 }
 
-// QUALITY/METHOD, with the slash at a place.
-fn quality(w: &[u8], slash: usize) -> SqiRead
-    ensures { sqi_said result ≡ quality_in w.now slash }
+// QUALITY/METHOD
+fn quality(w: &[u8]) -> Option<Option<Sqi>>
+    ensures { result ≡ quality_in w.now }
 {
-    let ByteRead::Is(quality) = byte(part(w, 0, slash)) else {
-        return SqiRead::Not;
-    };
-    let rest = part(w, slash, w.len());
-    match byte(part(rest, 1, rest.len())) {
-        ByteRead::Is(method) => SqiRead::Is(SqiItem::Is { quality, method }),
-        ByteRead::Not => SqiRead::Not,
-    }
+    let slash = place_of(w, b'/')?;
+    Some(Some(Sqi {
+        quality: byte(&w[..slash])?,
+        method: byte(&w[slash + 1..])?,
+    }))
 }
 
 // SQI
-fn sqi(w: &[u8]) -> SqiRead
-    ensures { sqi_said result ≡ sqi_in w.now }
+#[tactic(auto, unfolding(crate::specs::Said::sqi_in))]
+fn sqi(w: &[u8]) -> Option<Option<Sqi>>
+    ensures { result ≡ sqi_in w.now }
 {
-    let none = dash(w);
-    if none {
-        SqiRead::Is(SqiItem::Absent)
-    } else {
-        quality(w, place_of(w, b'/'))
-    }
+    if dash(w) { Some(None) } else { quality(w) }
 }
 
 // SEQ TS SSRC PTT ID PM PTTS CLD MSS, from word 2 on.
-pub(crate) fn tx(s: &[u8]) -> TxSaid
-    ensures { tx_said result ≡ tx_in s.now }
+#[tactic(auto, unfolding(crate::specs::Pieces::tx_in))]
+pub(crate) fn tx(s: &[u8]) -> Option<Tx>
+    ensures { result ≡ tx_in s.now }
 {
-    let HeadRead::Is(head) = head(s) else {
-        return TxSaid::Not;
-    };
-    let KeyRead::Is(key) = key(word(s, 6), word(s, 7), word(s, 8)) else {
-        return TxSaid::Not;
-    };
-    let ClimaxRead::Is(climax) = climax(word(s, 9)) else {
-        return TxSaid::Not;
-    };
-    let SideRead::Is(side) = side(word(s, 10)) else {
-        return TxSaid::Not;
-    };
-    TxSaid::Is(Tx {
+    let head = head(s)?;
+    let key = key(word(s, 6), word(s, 7), word(s, 8))?;
+    Some(Tx {
         sequence: head.sequence,
         timestamp: head.timestamp,
         ssrc: head.ssrc,
@@ -187,34 +101,20 @@ pub(crate) fn tx(s: &[u8]) -> TxSaid
         id: key.id,
         pm: key.pm,
         ptts: key.ptts,
-        climax,
-        side,
+        climax: climax(word(s, 9))?,
+        side: side(word(s, 10))?,
     })
 }
 
 // SEQ TS SSRC PTT SQU ID PM PTTS SCT SQI MSS, from word 2 on.
-pub(crate) fn rx(s: &[u8]) -> RxSaid
-    ensures { rx_said result ≡ rx_in s.now }
+#[tactic(auto, unfolding(crate::specs::Pieces::rx_in))]
+pub(crate) fn rx(s: &[u8]) -> Option<Rx>
+    ensures { result ≡ rx_in s.now }
 {
-    let HeadRead::Is(head) = head(s) else {
-        return RxSaid::Not;
-    };
-    let BoolRead::Is(squ) = flag(word(s, 6)) else {
-        return RxSaid::Not;
-    };
-    let KeyRead::Is(key) = key(word(s, 7), word(s, 8), word(s, 9)) else {
-        return RxSaid::Not;
-    };
-    let BoolRead::Is(sct) = flag(word(s, 10)) else {
-        return RxSaid::Not;
-    };
-    let SqiRead::Is(sqi) = sqi(word(s, 11)) else {
-        return RxSaid::Not;
-    };
-    let SideRead::Is(side) = side(word(s, 12)) else {
-        return RxSaid::Not;
-    };
-    RxSaid::Is(Rx {
+    let head = head(s)?;
+    let squ = flag(word(s, 6))?;
+    let key = key(word(s, 7), word(s, 8), word(s, 9))?;
+    Some(Rx {
         sequence: head.sequence,
         timestamp: head.timestamp,
         ssrc: head.ssrc,
@@ -223,8 +123,8 @@ pub(crate) fn rx(s: &[u8]) -> RxSaid
         id: key.id,
         pm: key.pm,
         ptts: key.ptts,
-        sct,
-        sqi,
-        side,
+        sct: flag(word(s, 10))?,
+        sqi: sqi(word(s, 11))?,
+        side: side(word(s, 12))?,
     })
 }

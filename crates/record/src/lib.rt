@@ -16,4 +16,4 @@ pub use seat::{
 };
 pub use setup::{Setup, lesson_seat};
 pub use shown::Air;
-pub use whole::Bench;
+pub use whole::{Answered, Bench};

@@ -5,6 +5,7 @@ ghost use Rattle.record.specs.Record.{fresh_bench};
 use crate::seat::Seat;
 use crate::setup::Setup;
 use crate::shown::Air;
+use packet::Refusal;
 
 #[repr(C)]
 #[derive(Clone, Copy)]
@@ -22,6 +23,13 @@ pub struct Bench {
     pub level: i16,
     // who is on the air and what reports tell of it; every accepted call but a report leaves it right
     pub air: Air,
+}
+
+// The bench after a call, and what the call answers. As it was where the call is refused.
+#[derive(Clone, Copy)]
+pub struct Answered<T> {
+    pub bench: Bench,
+    pub answer: Result<T, Refusal>,
 }
 
 impl Bench {

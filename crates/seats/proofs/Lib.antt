@@ -3,5 +3,4 @@ pub mod OpeningLaws
 pub mod TickingLaws
 pub mod TwoTicks
 pub mod RadioLaws
-pub mod TellApart
 pub mod InWords

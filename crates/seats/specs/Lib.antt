@@ -3,5 +3,4 @@
 pub mod Opening
 pub mod Ticking
 pub mod Radio
-pub mod Answers
 pub mod InWords

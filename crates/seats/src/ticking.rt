@@ -14,29 +14,31 @@ pub fn silence_cause() -> u16
 fn nothing_left(s: Seat, ms: u16) -> bool
     ensures { result ≡ nothing_left ms s }
 {
-    s.left <= ms as u32
+    s.left <= u32::from(ms)
 }
 
+#[tactic(auto, unfolding(crate::specs::Ticking::falls_silent))]
 fn falls_silent(s: Seat, ms: u16) -> bool
     ensures { result ≡ falls_silent ms s }
 {
-    s.opened & nothing_left(s, ms)
+    s.opened && nothing_left(s, ms)
 }
 
 // Several periods that run out in one tick count once.
+#[tactic(auto, unfolding(crate::specs::Ticking::is_due))]
 fn is_due(s: Seat, ms: u16) -> bool
     ensures { result ≡ is_due ms s }
 {
-    let passed = s.phase as u32 + ms as u32;
-    s.opened & !nothing_left(s, ms) & (s.period as u32 <= passed)
+    let passed = u32::from(s.phase) + u32::from(ms);
+    s.opened && !nothing_left(s, ms) && u32::from(s.period) <= passed
 }
 
 // The phase is kept: what is left over when periods run out goes on counting.
 fn phase_after(ms: u16, period: u16, phase: u16) -> u16
     ensures { result ≡ phase_after ms period phase }
 {
-    let whole = period as u32;
-    let passed = phase as u32 + ms as u32;
+    let whole = u32::from(period);
+    let passed = u32::from(phase) + u32::from(ms);
     if whole == 0 {
         return 0;
     }
@@ -47,12 +49,14 @@ fn aged(s: Seat, ms: u16) -> Seat
     requires { ms < s.left }
     ensures { result ≡ aged ms s }
 {
-    let mut next = s;
-    next.left = s.left - ms as u32;
-    next.phase = phase_after(ms, s.period, s.phase);
-    next
+    Seat {
+        left: s.left - u32::from(ms),
+        phase: phase_after(ms, s.period, s.phase),
+        ..s
+    }
 }
 
+#[tactic(auto, unfolding(crate::specs::Ticking::ticked_seat, crate::specs::Ticking::falls_silent))]
 fn ticked_seat(s: Seat, ms: u16) -> Seat
     ensures { result ≡ ticked_seat ms s }
 {
@@ -69,41 +73,29 @@ fn ticked_seat(s: Seat, ms: u16) -> Seat
 pub fn silent_seats(seats: [Seat; 8], ms: u16) -> [bool; 8]
     ensures { result ≡ map (falls_silent ms) seats }
 {
-    let mut silent = [false; 8];
-    for i in 0..8 {
-        silent[i] = falls_silent(seats[i], ms);
-    }
-    silent
+    seats.map(|s| falls_silent(s, ms))
 }
 
 // Those due a report then: decided, as the closings are, from the seats as they were.
 pub fn due_seats(seats: [Seat; 8], ms: u16) -> [bool; 8]
     ensures { result ≡ map (is_due ms) seats }
 {
-    let mut due = [false; 8];
-    for i in 0..8 {
-        due[i] = is_due(seats[i], ms);
-    }
-    due
+    seats.map(|s| is_due(s, ms))
 }
 
 fn ticked_seats(seats: [Seat; 8], ms: u16) -> [Seat; 8]
     ensures { result ≡ map (ticked_seat ms) seats }
 {
-    let mut ticked = seats;
-    for i in 0..8 {
-        ticked[i] = ticked_seat(seats[i], ms);
-    }
-    ticked
+    seats.map(|s| ticked_seat(s, ms))
 }
 
 // The bench when ms have passed, but for what it keeps of the air.
+#[tactic(auto, unfolding(crate::specs::Ticking::ticked_bench))]
 pub fn ticked_bench(b: Bench, ms: u16) -> Bench
     ensures { result ≡ ticked_bench b ms }
 {
-    let seats = b.seats;
-    let ticked = ticked_seats(seats, ms);
-    let mut next = b;
-    next.seats = ticked;
-    next
+    Bench {
+        seats: ticked_seats(b.seats, ms),
+        ..b
+    }
 }

@@ -1,7 +1,6 @@
-use Rattle.grammar.proofs.Saying.{chosen}
 use Rattle.grammar.specs.Grammar.{named_in}
 use Rattle.grammar.proofs.line.named.Goals as goal
 
 pub returns : goal.returns
 unfolding named_in
-returns c = chosen _ c.choice.ensures c.word.ensures.holds
+returns c = rw c.word.ensures.holds at c.one_of.ensures

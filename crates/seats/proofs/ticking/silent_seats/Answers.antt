@@ -1,8 +1,7 @@
-use Rattle.seats.proofs.TickingLaws.{ticking_cases}
+use Rattle.std.proofs.Common.{rules}
+use Rattle.record.proofs.Maps.{mapped}
+use Rattle.seats.specs.Ticking.{falls_silent}
 use Rattle.seats.proofs.ticking.silent_seats.Goals as goal
 
 pub returns : goal.returns
-returns c = search ticking_cases
-
-pub loop-i-preserved : goal.loop-i-preserved
-loop-i-preserved c = search ticking_cases
+returns c = mapped _ (falls_silent c.args.ms) _ (λ x y q k. search rules) 8 _ _ (search rules) c.map.ensures.items
