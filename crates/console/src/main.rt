@@ -9,8 +9,8 @@ mod session;
 mod usage;
 
 use bench::{Bench, Kind, Setup, kind_code};
-use session::{Held, LINE, answered, turn};
-use std::io;
+use session::Session;
+use std::io::{self, Read};
 
 // setup 78 0167 pair lockout interruption
 fn usual() -> Setup {
@@ -25,20 +25,16 @@ fn usual() -> Setup {
 
 fn main(rt: HostRuntime) -> io::Result<()> {
     let mut input = rt.reader();
-    let mut line = [0u8; LINE];
-    let mut held = Held {
-        bench: Bench::fresh(usual()),
-        length: 0,
-    };
+    let mut session = Session::new(Bench::fresh(usual()));
+    let mut piece = [0u8; 4096];
     // More turns than an input has pieces: they show that the loop ends.
     for _ in 0..u64::MAX {
-        let turned = turn(&rt, &mut input, held, &mut line)?;
-        held = turned.held;
-        if !turned.more {
+        let n = input.read(&mut piece)?;
+        if n == 0 {
             break;
         }
+        session.take(&rt, &piece[..n])?;
     }
     // A last line without its end is answered too.
-    answered(&rt, held.bench, held.length, &line)?;
-    Ok(())
+    session.answer(&rt)
 }
