@@ -9,7 +9,7 @@ use lib.Dec.{eqb}
 use Rattle.base.specs.Lists.{how_many}
 use Rattle.base.proofs.Truths.{either_way}
 use Rattle.record.specs.Record.{seat_of}
-use Rattle.air.specs.Air.{type_of, keyings, top_rank, at_rank, leaders, added, on_air, smallest, any_sends, air_of, bench_air}
+use Rattle.air.specs.Air.{type_of, keyings, top_rank, at_rank, leaders, added, on_air, smallest, any_sends, among, air_of, bench_air}
 use Rattle.air.specs.Marks.{standing_of, rank_of, highest, seats_at, mark_all, marks_of, leaders_at, added_at, smallest_from, sends_from, ptts_shown}
 use Rattle.air.proofs.Marking.{mark_list}
 use Rattle.air.proofs.Places.{rank_now, ranks_in_order, highest_is_top, seats_at_rank, nobody_at_zero}
@@ -49,7 +49,7 @@ module _ (b : Bench) (standings ranks : List ℕ) (top : ℕ) (stand : standings
       → on ≡ mark_all leads (added_at b.setup.coupling_summation top b.order ranks)
       → id ≡ smallest_from 1 leads → ptt ≡ type_of top → ptts ≡ ptts_shown b.seats on
       → record { on = on; leads = leads; id = id; ptt = ptt; ptts = ptts } ≡ bench_air b
-  unfolding seat_of bench_air air_of on_air smallest_from smallest ptts_shown how_many sends_from any_sends
+  unfolding seat_of bench_air air_of on_air smallest_from smallest ptts_shown how_many sends_from any_sends marks_of among
   air_found leads on id ptt ptts l o i p s =
       let leading : leads ≡ marks_of (leaders b.setup (keyings b)) = l ∙ ap marks_of leaders_found in
       let all : on ≡ marks_of (on_air b.setup (keyings b)) = o ∙ rw (added_found, leading) (mark_list (leaders b.setup (keyings b)) (added b.setup (keyings b))) in

@@ -1,10 +1,8 @@
 pub mod RankLaws
 pub mod Marking
-pub mod Turns
 pub mod Places
+pub mod Chains
 pub mod AirFound
-pub mod AirLaws
-pub mod OrderLaws
 pub mod Bounds
 pub mod Kept
 pub mod OrderCounts

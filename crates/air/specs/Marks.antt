@@ -3,7 +3,7 @@
 use Rattle.std.specs.Prelude.{ℕ, ◌+◌, max, Bool, true, false, cond, not, ◌&&◌, ◌||◌, eqb, ltb, leb, get_or}
 use mathlib.Core.List.{List, [], ◌∷◌, map, foldl}
 use Rattle.base.specs.Lists.{how_many}
-use Rattle.record.specs.Record.{seat_numbers, closed_seat, entry_of}
+use Rattle.record.specs.Record.{seat_numbers, closed_seat, entry_of, with_entry}
 use Rattle.air.specs.Air.{rank, coupling_rank, the_first, among}
 use Rattle.record.specs.declared.seat.Seat.{Seat}
 
@@ -34,19 +34,12 @@ first_at r (n ∷ order) [] = 0
 first_at r (n ∷ order) (k ∷ ranks) = cond (eqb k r) n (first_at r order ranks)
 
 -- A set of seats as marks, seat n at place n - 1; what is no seat's number leaves no mark.
-abbrev pub marks_of : List ℕ → List Bool
+unfoldable pub marks_of : List ℕ → List Bool
 marks_of ns = map (among ns) seat_numbers
 
--- One seat more, if the test holds; the first mark is that of seat k.
-unfoldable pub mark_from : (k : ℕ) → (test : Bool) → List Bool → (n : ℕ) → List Bool
-mark_from k test [] n = []
-mark_from k test (m ∷ marks) n = (m || (test && eqb n k)) ∷ mark_from (k + 1) test marks n
-
-abbrev pub mark_if : (test : Bool) → List Bool → (n : ℕ) → List Bool
-mark_if test marks n = mark_from 1 test marks n
-
+-- Each of these seats marked too.
 unfoldable pub mark_all : List Bool → List ℕ → List Bool
-mark_all marks ns = foldl (mark_if true) marks ns
+mark_all marks ns = foldl (λ more n. with_entry more n true) marks ns
 
 unfoldable pub leaders_at : (equal_summation : Bool) → (top : ℕ) → (order ranks : List ℕ) → List ℕ
 leaders_at equal_summation top order ranks =

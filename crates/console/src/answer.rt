@@ -1,86 +1,74 @@
 // The answer to a call: the library is asked, and what it says is written as a line, with no line end.
 use crate::say::{
-    air_line, heard_line, ok, opened_line, quality_line, ticked_line, totals_line, written_line,
+    air_line, heard_line, opened_line, quality_line, ticked_line, totals_line, written_line,
 };
 use crate::usage::{expected, help};
 use base::part;
-use bench::{Bench, Done, Request, Setup, kind_code};
+use bench::{Bench, Setup, kind_code};
 use grammar::{Call, Lent, ROOM, SetupSaid};
 use packet::{Refusal, quality};
 use reader::{payload, read_rx, read_tx};
+use record::Answered;
 use show::{refusal_line, rx_line, tx_line};
 use std::array;
+use text::Line;
 use writer::{write_rx, write_tx};
 
-// Answers how long the line is. `bytes` has the bytes that the line gave; the line itself says what was expected where it
-// is no call.
-pub(crate) fn answer(b: &mut Bench, call: Call, s: &[u8], bytes: &[u8], out: &mut [u8]) -> usize {
-    match answered(b, call, s, bytes, out) {
-        Ok(end) => end,
-        Err(r) => refusal_line(out, r),
+// `bytes` has the bytes that the line gave; the line itself says what was expected where it is no call.
+pub(crate) fn answer(b: &mut Bench, call: Call, s: &[u8], bytes: &[u8], line: &mut Line) {
+    if let Err(r) = accepted(b, call, s, bytes, line) {
+        refusal_line(line, r);
     }
 }
 
-fn answered(
+fn accepted(
     b: &mut Bench,
     call: Call,
     s: &[u8],
     bytes: &[u8],
-    out: &mut [u8],
-) -> Result<usize, Refusal> {
+    line: &mut Line,
+) -> Result<(), Refusal> {
     let ext = b.setup.ext;
     match call {
-        Call::Nothing => Ok(0),
-        Call::Setup(said) => Ok(set(b, Bench::fresh(setup(said)), out)),
-        Call::Open { seat, request } => open(b, seat, request, out),
-        Call::Close(seat) => done(b, bench::close(*b, seat), out),
+        Call::Nothing => {}
+        Call::Setup(said) => set(b, Bench::fresh(setup(said)), line),
+        Call::Open { seat, request } => opened_line(line, kept(b, bench::open(*b, seat, request))?),
+        Call::Close(seat) => done(b, bench::close(*b, seat), line)?,
         Call::Tick {
             ms,
             timestamp,
             room,
-        } => tick(b, ms, timestamp, room, out),
-        Call::Packet { seat, count } => hear(b, seat, part(bytes, 0, count), out),
+        } => tick(b, ms, timestamp, room, line)?,
+        Call::Packet { seat, count } => hear(b, seat, part(bytes, 0, count), line)?,
         Call::Report {
             seat,
             timestamp,
             lent,
-        } => report(b, seat, timestamp, lent, bytes, out),
-        Call::Received { signals, level } => Ok(set(b, bench::received(*b, signals, level), out)),
-        Call::Transmitter { healthy } => Ok(set(b, bench::transmitter(*b, healthy), out)),
-        Call::Side { standby } => done(b, bench::side(*b, standby), out),
-        Call::ReadTx(count) => {
-            let p = part(bytes, 0, count);
-            Ok(tx_line(out, read_tx(ext, p)?, payload(p).len()))
-        }
-        Call::ReadRx(count) => {
-            let p = part(bytes, 0, count);
-            Ok(rx_line(out, read_rx(ext, p)?, payload(p).len()))
-        }
-        Call::WriteTx { message, lent } => write(lent, bytes, out, |audio, buffer| {
+        } => report(b, seat, timestamp, lent, bytes, line)?,
+        Call::Received { signals, level } => set(b, bench::received(*b, signals, level), line),
+        Call::Transmitter { healthy } => set(b, bench::transmitter(*b, healthy), line),
+        Call::Side { standby } => done(b, bench::side(*b, standby), line)?,
+        Call::ReadTx(count) => tx(ext, part(bytes, 0, count), line)?,
+        Call::ReadRx(count) => rx(ext, part(bytes, 0, count), line)?,
+        Call::WriteTx { message, lent } => write(lent, bytes, line, |audio, buffer| {
             write_tx(ext, message, audio, buffer)
-        }),
-        Call::WriteRx { message, lent } => write(lent, bytes, out, |audio, buffer| {
+        })?,
+        Call::WriteRx { message, lent } => write(lent, bytes, line, |audio, buffer| {
             write_rx(ext, message, audio, buffer)
-        }),
-        Call::Quality(level) => Ok(quality_line(out, quality(level))),
-        Call::Air => Ok(air_line(out, b.air)),
-        Call::Totals(seat) => Ok(totals_line(out, bench::totals(*b, seat)?)),
-        Call::Help => Ok(help(out)),
-        Call::Wrong => Ok(expected(out, s)),
+        })?,
+        Call::Quality(level) => quality_line(line, quality(level)),
+        Call::Air => air_line(line, b.air),
+        Call::Totals(seat) => totals_line(line, bench::totals(*b, seat)?),
+        Call::Help => help(line),
+        Call::Wrong => expected(line, s),
     }
+    Ok(())
 }
 
 // A call that is always accepted, and tells nothing.
-fn set(b: &mut Bench, after: Bench, out: &mut [u8]) -> usize {
+fn set(b: &mut Bench, after: Bench, line: &mut Line) {
     *b = after;
-    ok(out)
-}
-
-// A call that tells nothing.
-fn done(b: &mut Bench, done: Done, out: &mut [u8]) -> Result<usize, Refusal> {
-    *b = done.bench;
-    done.answer?;
-    Ok(ok(out))
+    line.put(b"ok");
 }
 
 fn setup(said: SetupSaid) -> Setup {
@@ -94,10 +82,17 @@ fn setup(said: SetupSaid) -> Setup {
     }
 }
 
-fn open(b: &mut Bench, seat: u8, request: Request, out: &mut [u8]) -> Result<usize, Refusal> {
-    let opened = bench::open(*b, seat, request);
-    *b = opened.bench;
-    Ok(opened_line(out, opened.answer?))
+// Keeps the bench after a call, and hands on what the call answers.
+fn kept<T>(b: &mut Bench, after: Answered<T>) -> Result<T, Refusal> {
+    *b = after.bench;
+    after.answer
+}
+
+// A call that tells nothing.
+fn done(b: &mut Bench, after: Answered<()>, line: &mut Line) -> Result<(), Refusal> {
+    kept(b, after)?;
+    line.put(b"ok");
+    Ok(())
 }
 
 fn tick(
@@ -105,20 +100,20 @@ fn tick(
     ms: u16,
     timestamp: u32,
     room: usize,
-    out: &mut [u8],
-) -> Result<usize, Refusal> {
+    line: &mut Line,
+) -> Result<(), Refusal> {
     let mut buffer = [0u8; ROOM];
     let ticked = bench::tick(*b, ms, timestamp, &mut buffer[..room.min(ROOM)]);
     *b = ticked.bench;
     let used = ticked.answer?;
-    Ok(ticked_line(out, ticked.seats, part(&buffer, 0, used)))
+    ticked_line(line, ticked.seats, part(&buffer, 0, used));
+    Ok(())
 }
 
-fn hear(b: &mut Bench, seat: u8, p: &[u8], out: &mut [u8]) -> Result<usize, Refusal> {
-    let packeted = bench::packet(*b, seat, p);
-    *b = packeted.bench;
-    let heard = packeted.answer?;
-    Ok(heard_line(out, heard, bench::audio(packeted.answer, p)))
+fn hear(b: &mut Bench, seat: u8, p: &[u8], line: &mut Line) -> Result<(), Refusal> {
+    let answer = kept(b, bench::packet(*b, seat, p));
+    heard_line(line, answer?, bench::audio(answer, p));
+    Ok(())
 }
 
 fn report(
@@ -127,28 +122,35 @@ fn report(
     timestamp: u32,
     lent: Lent,
     bytes: &[u8],
-    out: &mut [u8],
-) -> Result<usize, Refusal> {
-    write(lent, bytes, out, |audio, buffer| {
-        let reported = bench::report(*b, seat, timestamp, audio, buffer);
-        *b = reported.bench;
-        reported.answer
+    line: &mut Line,
+) -> Result<(), Refusal> {
+    write(lent, bytes, line, |audio, buffer| {
+        kept(b, bench::report(*b, seat, timestamp, audio, buffer))
     })
+}
+
+fn tx(ext: u16, p: &[u8], line: &mut Line) -> Result<(), Refusal> {
+    tx_line(line, read_tx(ext, p)?, payload(p).len());
+    Ok(())
+}
+
+fn rx(ext: u16, p: &[u8], line: &mut Line) -> Result<(), Refusal> {
+    rx_line(line, read_rx(ext, p)?, payload(p).len());
+    Ok(())
 }
 
 // What `writer` writes, given the audio and the buffer that are lent.
 fn write<W: FnOnce(&[u8], &mut [u8]) -> Result<usize, Refusal>>(
     lent: Lent,
     bytes: &[u8],
-    out: &mut [u8],
+    line: &mut Line,
     writer: W,
-) -> Result<usize, Refusal>
+) -> Result<(), Refusal>
     requires { W.IsAlwaysCallable writer }
 {
     let mut buffer = [0u8; ROOM];
-    let n = writer(
-        part(bytes, 0, lent.audio),
-        &mut buffer[..lent.room.min(ROOM)],
-    )?;
-    Ok(written_line(out, part(&buffer, 0, n)))
+    let room = lent.room.min(ROOM);
+    let n = writer(part(bytes, 0, lent.audio), &mut buffer[..room])?;
+    written_line(line, part(&buffer, 0, n));
+    Ok(())
 }

@@ -1,22 +1,21 @@
 -- What a report tells, when it is turned away, and its next number, held to InWords.
-use Prim.Native.Nat.{ℕ, ◌+◌, ◌*◌, ◌≤◌, ◌<◌}
-use mathlib.Core.Path.{◌≡◌, refl, sym, ap, subst, ◌∙◌}
-use mathlib.Core.Bool.{Bool, true, false, cond, not, ◌&&◌, ◌||◌, false≢true}
+use Prim.Native.Nat.{ℕ, ◌+◌, ◌≤◌, ◌<◌}
+use mathlib.Core.Path.{◌≡◌, refl, subst}
+use mathlib.Core.Bool.{Bool, true, false, cond, not, ◌&&◌, ◌||◌}
 use mathlib.Core.List.{List}
 use mathlib.Core.Logic.{◌↔◌, ◌⊎◌, inl, inr}
 use native.Mathlib.Omega.{arith}
+use Rattle.std.proofs.lemmas.Bool.Decides.{nat_tests}
 use lib.Dec.{ltb, leb, eqb}
 use lib.ListN.{length}
-use borrow.Author.Tests.{ltb-true, ltb-false, lt-ltb, leb-true, leb-false, le-leb, eqb-true, eqb-false, ne_eqb, not-true}
-use Rattle.base.specs.Bytes.{bit}
-use Rattle.base.proofs.Truths.{and_left, and_right, ◌and◌, or_true}
+use borrow.Author.Tests.{ltb-true, leb-true, le-leb, ne_eqb}
+use Rattle.base.proofs.Truths.{◌and◌}
 use Rattle.packet.specs.Quality.{quality}
 use Rattle.packet.proofs.InWords.{MetIf, Agree, met_alike, is_quality}
 use Rattle.writer.specs.Writing.{audio_writable}
-use Rattle.writer.proofs.InWords.{no_audio, not_audio}
+use Rattle.writer.proofs.InWords.{no_audio}
 use Rattle.record.specs.Kind.{kind_of, has_one_side}
 use Rattle.record.specs.Record.{no_such_seat, entry_of, seat_of}
-use Rattle.record.specs.declared.kind.Kind.TheVariants.{Single, Pair, Shared}
 use Rattle.record.specs.declared.whole.Bench.{Bench}
 use Rattle.air.specs.InWords.{TakesPart, Leads, all_of_them, the_first_one, Shows}
 use Rattle.seats.specs.Opening.{own_id, seat_refusals}
@@ -92,19 +91,14 @@ module _ (b : Bench) (n : ℕ) (sound : List ℕ) (room : ℕ) where
   by_audio : MetIf Barred 25 (audio_barred b.signals (length sound))
   by_audio = record { if_holds = λ e. if_holds (audio_writable (length sound)) refl e; only_if = only_if }
     where
-      silent : (a c : Bool) → leb 1 b.signals ≡ a → eqb (length sound) 0 ≡ c → not a && not c ≡ true → Barred 25 0
-      silent true c p q e = absurd (false≢true e)
-      silent false true p q e = absurd (false≢true e)
-      silent false false p q e = no_signal (let h = leb-false 1 b.signals p in omega arith) (eqb-false (length sound) 0 q)
-
       if_holds : (t : Bool) → audio_writable (length sound) ≡ t → not t || (not (squ_told b.signals) && not (eqb (length sound) 0)) ≡ true → Barred 25 0
       if_holds false q e = let none = no_audio (length sound) q in no_length none.0 none.1 none.2 none.3
-      if_holds true q e = silent (leb 1 b.signals) (eqb (length sound) 0) refl refl e
+      if_holds true q e = no_signal (grind (arith, nat_tests)) (grind (arith, nat_tests))
 
       only_if : (c : ℕ) → Barred 25 c → (audio_barred b.signals (length sound) ≡ true) × (c ≡ 0)
       only_if c (its_seat _ _ s) = absurd (let r = seat_range b n s in omega arith)
-      only_if c (no_length a d e f) = (simp (not_audio (length sound) a d e f), refl)
-      only_if c (no_signal e a) = (simp (e, ne_eqb (length sound) 0 a, or_true), refl)
+      only_if c (no_length a d e f) = (grind (arith, nat_tests), refl)
+      only_if c (no_signal e a) = (grind (arith, nat_tests), refl)
 
   -- both items, or not
   two_sides : (b.setup.kind ≡ 1) ⊎ (b.setup.kind ≡ 2) → has_one_side (kind_of b.setup.kind) ≡ false
@@ -114,38 +108,19 @@ module _ (b : Bench) (n : ℕ) (sound : List ℕ) (room : ℕ) where
 
   which_two : has_one_side (kind_of b.setup.kind) ≡ false → (b.setup.kind ≡ 1) ⊎ (b.setup.kind ≡ 2)
   unfolding kind_of
-  which_two e = by_kind (eqb b.setup.kind 1) (eqb b.setup.kind 2) refl refl e
-    where
-      by_kind : (one two : Bool) → eqb b.setup.kind 1 ≡ one → eqb b.setup.kind 2 ≡ two → has_one_side (cond one Pair (cond two Shared Single)) ≡ false
-          → (b.setup.kind ≡ 1) ⊎ (b.setup.kind ≡ 2)
-      by_kind true two p q e = inl (eqb-true b.setup.kind 1 p)
-      by_kind false true p q e = inr (eqb-true b.setup.kind 2 q)
-      by_kind false false p q e = absurd (false≢true (sym e))
+  which_two e = grind (arith, nat_tests)
 
   by_room : (timestamp : ℕ) → MetIf Barred 26 (ltb room (length (report_bytes b n timestamp sound)))
   by_room timestamp = record { if_holds = λ e. if_holds (two_items b) refl (ltb-true room (length (report_bytes b n timestamp sound)) e); only_if = only_if }
     where
-      long : (t : Bool) → two_items b ≡ t → length (report_bytes b n timestamp sound) ≡ 20 + 4 * bit t + length sound
-      long t e = report_long b n timestamp sound ∙ ap (λ (t : Bool). 20 + 4 * bit t + length sound) e
-
       if_holds : (t : Bool) → two_items b ≡ t → room < length (report_bytes b n timestamp sound) → Barred 26 0
-      if_holds true e h =
-          let l = long true e in
-          under_24 (leb-true 1 b.signals (and_left (squ_told b.signals) (not (has_one_side (kind_of b.setup.kind))) e))
-          (which_two (not-true _ (and_right (squ_told b.signals) (not (has_one_side (kind_of b.setup.kind))) e))) (omega arith)
-      if_holds false e h = let l = long false e in under_20 (omega arith)
-
-      short : (t : Bool) → two_items b ≡ t → room < 20 + 4 * bit t + length sound → ltb room (length (report_bytes b n timestamp sound)) ≡ true
-      short t e h = let l = long t e in lt-ltb room (length (report_bytes b n timestamp sound)) (omega arith)
-
-      short_20 : (t : Bool) → two_items b ≡ t → room < 20 + length sound → ltb room (length (report_bytes b n timestamp sound)) ≡ true
-      short_20 true e h = short true e (omega arith)
-      short_20 false e h = short false e (omega arith)
+      if_holds true e h = under_24 (grind (arith, nat_tests)) (which_two (grind (arith, nat_tests))) (grind (arith, report_long))
+      if_holds false e h = under_20 (grind (arith, report_long))
 
       only_if : (c : ℕ) → Barred 26 c → (ltb room (length (report_bytes b n timestamp sound)) ≡ true) × (c ≡ 0)
       only_if c (its_seat _ _ s) = absurd (let r = seat_range b n s in omega arith)
-      only_if c (under_20 h) = (short_20 (two_items b) refl h, refl)
-      only_if c (under_24 some sides h) = (short true (simp (le-leb 1 b.signals some, two_sides sides)) h, refl)
+      only_if c (under_20 h) = (grind (arith, nat_tests, report_long), refl)
+      only_if c (under_24 some sides h) = let e = two_sides sides in (grind (arith, nat_tests, report_long), refl)
 
   pub report_agrees : (timestamp : ℕ) → Agree (ReportBarred b n sound room) (report_refusals b n timestamp sound room)
   unfolding report_refusals seat_refusals
@@ -157,5 +132,5 @@ pub one_up : (last : ℕ) → last < 65536 → OneUp last (next_sequence last)
 one_up last fits = by_end (ltb last 65535) refl
   where
     by_end : (t : Bool) → ltb last 65535 ≡ t → OneUp last (next_sequence last)
-    by_end true e = let below = ltb-true last 65535 e in let next : last + 1 ≡ next_sequence last = omega arith in subst (OneUp last) next (up below)
-    by_end false e = let over = ltb-false last 65535 e in let next : 0 ≡ next_sequence last = omega arith in subst (OneUp last) next (wrapping (omega arith))
+    by_end true e = let next : last + 1 ≡ next_sequence last = grind (arith, nat_tests) in subst (OneUp last) next (up (grind (arith, nat_tests)))
+    by_end false e = let next : 0 ≡ next_sequence last = grind (arith, nat_tests) in subst (OneUp last) next (wrapping (grind (arith, nat_tests)))

@@ -1,4 +1,3 @@
-pub mod ReportLaws
 pub mod Told
 pub mod Accepted
 pub mod ReportLength

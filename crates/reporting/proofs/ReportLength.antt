@@ -1,23 +1,22 @@
 -- The length of a report: by signals, kind of radio and audio alone. So neither 26 nor the bytes of a tick depend on the air.
 use Prim.Native.Nat.{ℕ, ◌+◌, ◌*◌, ◌≤◌}
-use mathlib.Core.Path.{◌≡◌, refl}
-use mathlib.Core.Bool.{Bool, true, false, cond, not, ◌&&◌}
+use mathlib.Core.Path.{◌≡◌}
+use mathlib.Core.Bool.{Bool, cond, not, ◌&&◌}
 use mathlib.Core.List.{List, []}
 use native.Mathlib.Omega.{arith}
+use Rattle.std.specs.Prelude.{None, Some}
 use lib.ListN.{length}
 use Rattle.base.specs.Bytes.{bit}
 use Rattle.base.proofs.Truths.{bit_most}
 use Rattle.packet.specs.Items.{rssi}
 use Rattle.packet.specs.Quality.{quality}
-use Rattle.packet.specs.declared.message.SqiItem.TheVariants as sqi
-use Rattle.packet.specs.declared.message.ClimaxItem.TheVariants as climax
 use Rattle.packet.specs.declared.message.Items.{Items}
-use Rattle.writer.specs.Writing.{from_rx, rising_items, item_bytes, fewest_words}
+use Rattle.packet.specs.Messages.{from_rx}
+use Rattle.writer.specs.Writing.{rising_items, item_bytes, fewest_words}
 use Rattle.writer.proofs.WrittenLaws.{encoded_length}
 use Rattle.record.specs.Kind.{kind_of, has_one_side, side_told}
 use Rattle.reporting.specs.Reporting.{squ_told, report_of, report_bytes}
 use Rattle.record.specs.declared.kind.Kind.{Kind}
-use Rattle.record.specs.declared.kind.Kind.TheVariants.{Single, Pair, Shared}
 use Rattle.record.specs.declared.whole.Bench.{Bench}
 
 -- a report of a bench has two items: a signal is received, and the radio has two sides
@@ -25,19 +24,12 @@ abbrev pub two_items : Bench → Bool
 two_items b = squ_told b.signals && not (has_one_side (kind_of b.setup.kind))
 
 items_told : (squ : Bool) (kind : Kind) (standby : Bool) (q : ℕ) → Items
-items_told squ kind standby q = record { sqi = cond squ (sqi.Is q rssi) sqi.Absent; climax = climax.Absent; side = side_told kind standby }
+items_told squ kind standby q = record { sqi = cond squ (Some (record { quality = q; method = rssi })) None; climax = None; side = side_told kind standby }
 
 words_told : (squ : Bool) (kind : Kind) (standby : Bool) (q : ℕ)
     → fewest_words (rising_items (items_told squ kind standby q)) ≡ 1 + bit (squ && not (has_one_side kind))
 unfolding rising_items items_told item_bytes
-words_told true Single standby q = refl
-words_told true Pair true q = refl
-words_told true Pair false q = refl
-words_told true Shared standby q = refl
-words_told false Single standby q = refl
-words_told false Pair true q = refl
-words_told false Pair false q = refl
-words_told false Shared standby q = refl
+words_told squ kind standby q = grind arith
 
 pub report_long : (b : Bench) (n timestamp : ℕ) (sound : List ℕ)
     → length (report_bytes b n timestamp sound) ≡ 20 + 4 * bit (two_items b) + length sound

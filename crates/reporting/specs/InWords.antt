@@ -1,10 +1,9 @@
 -- Second witness of `reporting`: 01's "Report to a seat" once more in words and numbers: what it tells, when it is turned away (13, 14, 25,
 -- 26), and its next number. proofs/InWords holds the definitions of Reporting to it; none of them is cited. Who is on the air is said as
 -- crate `air` says it in words. The codes: call types 2 TxRx, 3 Coupling; kinds 1 a pair, 2 a shared radio, every other a single one.
-use Rattle.std.specs.Prelude.{ℕ, ◌+◌, ◌≤◌, ◌<◌, ◌≡◌, true, false, List, ◌↔◌, ◌⊎◌, length}
+use Rattle.std.specs.Prelude.{ℕ, ◌+◌, ◌≤◌, ◌<◌, ◌≡◌, true, false, List, ◌↔◌, ◌⊎◌, length, None, Some}
 use Rattle.packet.specs.InWords.{IsQuality}
-use Rattle.packet.specs.declared.message.SqiItem.TheVariants as sqi
-use Rattle.packet.specs.declared.message.SideItem.TheVariants as item
+use Rattle.packet.specs.declared.message.Side.TheVariants.{Main, Standby}
 use Rattle.packet.specs.declared.message.Rx.{Rx}
 use Rattle.record.specs.Record.{entry_of, seat_of}
 use Rattle.record.specs.declared.whole.Bench.{Bench}
@@ -31,13 +30,13 @@ pub record Tells (b : Bench) (n timestamp : ℕ) (m : Rx) : Type 0 where
   -- "SQU: 1 signal or more. SCT: 2 or more. SQI item, method RSSI, exactly if SQU is 1" (RSSI is method 0)
   pub squ : (m.squ ≡ true) ↔ (1 ≤ b.signals)
   pub sct : (m.sct ≡ true) ↔ (2 ≤ b.signals)
-  pub no_quality : b.signals ≡ 0 → m.sqi ≡ sqi.Absent
-  pub a_quality : 1 ≤ b.signals → (q : ℕ) × (m.sqi ≡ sqi.Is q 0) × IsQuality b.level q
+  pub no_quality : b.signals ≡ 0 → m.sqi ≡ None
+  pub a_quality : 1 ≤ b.signals → (q : ℕ) × (m.sqi ≡ Some (record { quality = q; method = 0 })) × IsQuality b.level q
   -- "Main/standby item, with the side in use, exactly for a pair"; 02, of a shared radio: "with 0, whichever side is in use"
-  pub no_item : (b.setup.kind ≡ 1 → ⊥) → (b.setup.kind ≡ 2 → ⊥) → m.side ≡ item.Absent
-  pub main_told : b.setup.kind ≡ 1 → b.standby ≡ false → m.side ≡ item.Main
-  pub standby_told : b.setup.kind ≡ 1 → b.standby ≡ true → m.side ≡ item.Standby
-  pub zero_told : b.setup.kind ≡ 2 → m.side ≡ item.Main
+  pub no_item : (b.setup.kind ≡ 1 → ⊥) → (b.setup.kind ≡ 2 → ⊥) → m.side ≡ None
+  pub main_told : b.setup.kind ≡ 1 → b.standby ≡ false → m.side ≡ Some Main
+  pub standby_told : b.setup.kind ≡ 1 → b.standby ≡ true → m.side ≡ Some Standby
+  pub zero_told : b.setup.kind ≡ 2 → m.side ≡ Some Main
 
 -- "Report 13, 14, 25, 26."
 pub data ReportBarred (b : Bench) (n : ℕ) (sound : List ℕ) (room : ℕ) : (number cause : ℕ) → Type 0 where

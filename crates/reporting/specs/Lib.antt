@@ -1,5 +1,4 @@
--- What a report to a seat tells. (Pieces: what the private functions answer.)
+-- What a report to a seat tells.
 -- InWords: the sentences once more, without these definitions.
 pub mod Reporting
-pub mod Pieces
 pub mod InWords

@@ -1,11 +1,11 @@
 -- 01, Report to a seat.
-use Rattle.std.specs.Prelude.{ℕ, ◌+◌, ◌%◌, Bool, false, cond, not, ◌&&◌, ◌||◌, List, [], ◌∷◌, ◌++◌, ltb, leb, eqb, ℤ, length}
+use Rattle.std.specs.Prelude.{ℕ, ◌+◌, ◌%◌, Bool, false, cond, not, ◌&&◌, ◌||◌, List, [], ◌∷◌, ◌++◌, ltb, leb, eqb, ℤ, length, Option, None, Some}
 use Rattle.packet.specs.Items.{rssi}
 use Rattle.packet.specs.Quality.{quality}
 use Rattle.packet.specs.Refusals.{Case, ◌if◌, Answer, judged}
-use Rattle.writer.specs.Writing.{from_rx, encode, audio_writable, filled}
-use Rattle.packet.specs.declared.message.SqiItem.{SqiItem}
-use Rattle.packet.specs.declared.message.SqiItem.TheVariants as sqi
+use Rattle.packet.specs.Messages.{from_rx}
+use Rattle.writer.specs.Writing.{encode, audio_writable, filled}
+use Rattle.packet.specs.declared.message.Sqi.{Sqi}
 use Rattle.packet.specs.declared.message.Rx.{Rx}
 use Rattle.record.specs.Kind.{kind_of, side_told}
 use Rattle.record.specs.Record.{entry_of, seat_of, with_sequence}
@@ -25,8 +25,8 @@ abbrev pub sct_told : (signals : ℕ) → Bool
 sct_told signals = leb 2 signals
 
 -- "SQI item, method RSSI, exactly if SQU is 1"
-abbrev pub sqi_told : (signals : ℕ) → ℤ → SqiItem
-sqi_told signals level = cond (squ_told signals) (sqi.Is (quality level) rssi) sqi.Absent
+abbrev pub sqi_told : (signals : ℕ) → ℤ → Option Sqi
+sqi_told signals level = cond (squ_told signals) (Some (record { quality = quality level; method = rssi })) None
 
 -- The report as a message: "PM: the seat's own last PM." Who is on the air it reads from the record (02, request 5: "let reports
 -- read them"), whatever stands there; its main/standby item is that of the kind (Kind, side_told).

@@ -5,4 +5,4 @@
 
 pub mod reporting;
 
-pub use reporting::{Reported, next_sequence, report, report_of};
+pub use reporting::{next_sequence, report, report_of};

@@ -2,5 +2,4 @@ pub mod Accepted
 pub mod OpeningLaws
 pub mod TickingLaws
 pub mod TwoTicks
-pub mod RadioLaws
 pub mod InWords

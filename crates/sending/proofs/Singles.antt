@@ -11,7 +11,8 @@ use Rattle.base.proofs.Truths.{and_none}
 use Rattle.packet.specs.Refusals.{NoCase}
 use Rattle.packet.specs.declared.message.Rx.{Rx}
 use Rattle.framing.specs.Framing.{framed}
-use Rattle.writer.specs.Writing.{from_rx, encode}
+use Rattle.packet.specs.Messages.{from_rx}
+use Rattle.writer.specs.Writing.{encode}
 use Rattle.record.specs.Record.{closed_seat, entry_of, seat_of, with_sequences}
 use Rattle.record.proofs.Seats.{real_at, entry_elsewhere, open_is_seat, seat_at}
 use Rattle.air.specs.Air.{keyings, bench_air, aired}

@@ -1,16 +1,15 @@
 -- What a writer turns away, held to InWords.
-use Prim.Native.Nat.{ℕ, ◌+◌, ◌*◌, ◌<◌, ◌≤◌}
-use mathlib.Core.Path.{◌≡◌, refl, sym, ap, ◌∙◌}
-use mathlib.Core.Bool.{Bool, true, false, cond, not, ◌&&◌, ◌||◌, false≢true}
+use Prim.Native.Nat.{ℕ, ◌<◌}
+use mathlib.Core.Path.{◌≡◌, refl, sym}
+use mathlib.Core.Bool.{Bool, true, false, cond, not, ◌&&◌, false≢true}
 use mathlib.Core.List.{List}
 use mathlib.Core.Logic.{◌⊎◌, inl, inr}
 use native.Mathlib.Omega.{arith}
+use Rattle.std.proofs.lemmas.Bool.Decides.{nat_tests}
 use Rattle.std.specs.Prelude.{Option, None, Some}
 use lib.Dec.{ltb, leb, eqb}
 use lib.ListN.{length}
-use borrow.Author.Tests.{ltb-true, lt-ltb, leb-false, lt-leb, eqb-true, eqb-false, ne_eqb}
-use Rattle.base.proofs.Truths.{and_none}
-use Rattle.packet.specs.Items.{sqi_allowed}
+use borrow.Author.Tests.{ltb-true, leb-false}
 use Rattle.packet.proofs.InWords.{MetIf, Agree}
 use Rattle.packet.specs.declared.message.Sqi.{Sqi}
 use Rattle.packet.specs.declared.message.Side.{Side}
@@ -25,18 +24,10 @@ use Rattle.writer.proofs.WrittenLaws.{encoded_length}
 
 -- 0, 80, 160 and 240 bytes, and no others
 pub no_audio : (k : ℕ) → audio_writable k ≡ false → (k ≡ 0 → ⊥) × (k ≡ 80 → ⊥) × (k ≡ 160 → ⊥) × (k ≡ 240 → ⊥)
-no_audio k e = by_tests (eqb k 0) (eqb k 80) (eqb k 160) (eqb k 240) refl refl refl refl e
-  where
-    by_tests : (a c d f : Bool) → eqb k 0 ≡ a → eqb k 80 ≡ c → eqb k 160 ≡ d → eqb k 240 ≡ f → a || (c || d || f) ≡ false
-        → (k ≡ 0 → ⊥) × (k ≡ 80 → ⊥) × (k ≡ 160 → ⊥) × (k ≡ 240 → ⊥)
-    by_tests false false false false p q r s h = (eqb-false k 0 p, eqb-false k 80 q, eqb-false k 160 r, eqb-false k 240 s)
-    by_tests true c d f p q r s h = absurd (false≢true (sym h))
-    by_tests false true d f p q r s h = absurd (false≢true (sym h))
-    by_tests false false true f p q r s h = absurd (false≢true (sym h))
-    by_tests false false false true p q r s h = absurd (false≢true (sym h))
+no_audio k e = (λ h. grind (arith, nat_tests), λ h. grind (arith, nat_tests), λ h. grind (arith, nat_tests), λ h. grind (arith, nat_tests))
 
 pub not_audio : (k : ℕ) → (k ≡ 0 → ⊥) → (k ≡ 80 → ⊥) → (k ≡ 160 → ⊥) → (k ≡ 240 → ⊥) → audio_writable k ≡ false
-not_audio k a c d e = simp (ne_eqb k 0 a, ne_eqb k 80 c, ne_eqb k 160 d, ne_eqb k 240 e)
+not_audio k a c d e = grind (arith, nat_tests)
 
 -- ---- 27
 
@@ -49,42 +40,35 @@ module _ (m : Message) (sound : List ℕ) (room : ℕ) where
   sqi_barred (Some s) is e = by_tests (leb s.method 3) (eqb s.method 0) refl refl e
     where
       by_tests : (known rssi : Bool) → leb s.method 3 ≡ known → eqb s.method 0 ≡ rssi → known && leb s.quality (cond rssi 15 31) ≡ false → Barred 27 0
-      by_tests false rssi p q h = no_method s is (leb-false s.method 3 p)
-      by_tests true true p q h = no_rssi s is (eqb-true s.method 0 q) (leb-false s.quality 15 h)
-      by_tests true false p q h = no_quality s is (leb-false s.quality 31 h)
+      by_tests false rssi p q h = no_method s is (grind (arith, nat_tests))
+      by_tests true true p q h = no_rssi s is (grind (arith, nat_tests)) (grind (arith, nat_tests))
+      by_tests true false p q h = no_quality s is (grind (arith, nat_tests))
 
   climax_barred : (i : Option ℕ) → m.items.climax ≡ i → climax_writable i ≡ false → Barred 27 0
   climax_barred None is e = absurd (false≢true (sym e))
   climax_barred (Some delay) is e = no_delay delay is (leb-false delay 127 e)
-
-  unwritable_quality : (quality method : ℕ) → (limit : ℕ) → limit < quality → ((t : Bool) → eqb method 0 ≡ t → cond t 15 31 ≤ limit) → sqi_allowed quality method ≡ false
-  unwritable_quality quality method limit h most = simp (lt-leb quality (cond (eqb method 0) 15 31) (let l = most (eqb method 0) refl in omega arith)) (and_none (leb method 3))
 
   by_value : MetIf Barred 27 (not (writable m (length sound)))
   unfolding writable
   by_value = record { if_holds = by_tests (leb m.ptt 5) (leb m.id 63) (sqi_writable m.items.sqi) (climax_writable m.items.climax) (audio_writable (length sound)) refl refl refl refl refl; only_if = only_if }
     where
       by_tests : (a c d e f : Bool) → leb m.ptt 5 ≡ a → leb m.id 63 ≡ c → sqi_writable m.items.sqi ≡ d → climax_writable m.items.climax ≡ e → audio_writable (length sound) ≡ f
-          → not (a && c && d && e && f) ≡ true → Barred 27 0
+          → not (writable m (length sound)) ≡ true → Barred 27 0
       by_tests false c d e f p q r s t h = no_type (leb-false m.ptt 5 p)
       by_tests true false d e f p q r s t h = no_id (leb-false m.id 63 q)
       by_tests true true false e f p q r s t h = sqi_barred m.items.sqi refl r
       by_tests true true true false f p q r s t h = climax_barred m.items.climax refl s
       by_tests true true true true false p q r s t h = let n = no_audio (length sound) t in no_length n.0 n.1 n.2 n.3
-      by_tests true true true true true p q r s t h = absurd (false≢true h)
-
-      either_limit : (t : Bool) → cond t 15 31 ≤ 31
-      either_limit true = omega arith
-      either_limit false = omega arith
+      by_tests true true true true true p q r s t h = absurd (grind (arith, nat_tests))
 
       only_if : (c : ℕ) → Barred 27 c → (not (writable m (length sound)) ≡ true) × (c ≡ 0)
-      only_if c (no_type h) = (simp (lt-leb m.ptt 5 h), refl)
-      only_if c (no_id h) = (simp (lt-leb m.id 63 h, and_none), refl)
-      only_if c (no_method s is h) = (simp (is, lt-leb s.method 3 h, and_none), refl)
-      only_if c (no_quality s is h) = (simp (is, unwritable_quality s.quality s.method 31 h (λ t e. either_limit t), and_none), refl)
-      only_if c (no_rssi s is r h) = (simp (is, r, lt-leb s.quality 15 h, and_none), refl)
-      only_if c (no_delay delay is h) = (simp (is, lt-leb delay 127 h, and_none), refl)
-      only_if c (no_length a d e f) = (simp (not_audio (length sound) a d e f, and_none), refl)
+      only_if c (no_type h) = (grind (arith, nat_tests), refl)
+      only_if c (no_id h) = (grind (arith, nat_tests), refl)
+      only_if c (no_method s is h) = (grind (arith, nat_tests), refl)
+      only_if c (no_quality s is h) = (grind (arith, nat_tests), refl)
+      only_if c (no_rssi s is r h) = (grind (arith, nat_tests), refl)
+      only_if c (no_delay delay is h) = (grind (arith, nat_tests), refl)
+      only_if c (no_length a d e f) = (grind (arith, nat_tests), refl)
 
 -- ---- 26
 
@@ -135,21 +119,15 @@ module _ (ext : ℕ) (m : Message) (sound : List ℕ) (room : ℕ) where
       words : ItsWords m.items
       words = words_of m.items.sqi m.items.climax m.items.side
 
-      long : {w : ℕ} → fewest_words (rising_items m.items) ≡ w → length (encode ext m sound) ≡ 16 + 4 * w + length sound
-      long e = encoded_length ext m sound ∙ ap (λ (w : ℕ). 16 + 4 * w + length sound) e
-
       if_holds : ItsWords m.items → room < length (encode ext m sound) → WriterBarred m sound room 26 0
-      if_holds (inl w) h = let l = long w.1 in under_20 (omega arith)
-      if_holds (inr w) h = let l = long w.1 in under_24 w.0 (omega arith)
-
-      short : (w : ℕ) → fewest_words (rising_items m.items) ≡ w → room < 16 + 4 * w + length sound → ltb room (length (encode ext m sound)) ≡ true
-      short w e h = let l = long e in lt-ltb room (length (encode ext m sound)) (omega arith)
+      if_holds (inl w) h = under_20 (grind (arith, encoded_length))
+      if_holds (inr w) h = under_24 w.0 (grind (arith, encoded_length))
 
       only_if : ItsWords m.items → (c : ℕ) → WriterBarred m sound room 26 c → (ltb room (length (encode ext m sound)) ≡ true) × (c ≡ 0)
-      only_if (inl w) c (under_20 h) = (short 1 w.1 h, refl)
+      only_if (inl w) c (under_20 h) = (grind (arith, nat_tests, encoded_length), refl)
       only_if (inl w) c (under_24 t h) = absurd (w.0 t)
-      only_if (inr w) c (under_20 h) = (short 2 w.1 (omega arith), refl)
-      only_if (inr w) c (under_24 t h) = (short 2 w.1 h, refl)
+      only_if (inr w) c (under_20 h) = (grind (arith, nat_tests, encoded_length), refl)
+      only_if (inr w) c (under_24 t h) = (grind (arith, nat_tests, encoded_length), refl)
 
   pub writer_agrees : Agree (WriterBarred m sound room) (writer_refusals ext m sound room)
   unfolding writer_refusals

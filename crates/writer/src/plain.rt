@@ -64,7 +64,7 @@ fn kind_for(audio: usize) -> u8
 }
 
 // The words, and zeros up to the length of two.
-#[tactic(auto, using(crate::proofs::Words::words_are))]
+#[tactic(auto, unfolding(crate::specs::Writing::words_of, crate::specs::Writing::item_bytes, crate::specs::Writing::rising_items))]
 fn words(m: Message) -> [u8; 8]
     ensures { result ≡ padded 8 (words_of m (rising_items m.items)) }
 {
@@ -132,7 +132,7 @@ fn some_item(k: Items) -> bool
     item_count(k) != 0
 }
 
-#[tactic(auto, using(crate::proofs::Words::rising_length, crate::proofs::Words::at_most_three))]
+#[tactic(auto, unfolding(crate::specs::Writing::item_bytes, crate::specs::Writing::rising_items))]
 pub(crate) fn fewest_words(k: Items) -> u16
     ensures { result ≡ fewest_words (rising_items k) }
 {

@@ -1,5 +1,7 @@
-use Rattle.air.proofs.AirLaws.{air_cases}
+use Rattle.std.proofs.Common.{rules}
+use Rattle.record.proofs.Maps.{mapped}
+use Rattle.air.specs.Marks.{standing_of}
 use Rattle.air.proofs.air.standings.Goals as goal
 
-pub loop-i-preserved : goal.loop-i-preserved
-loop-i-preserved c = search air_cases
+pub returns : goal.returns
+returns c = mapped _ (standing_of c.args.healthy) _ (λ x y q k. search rules) 8 _ _ (search rules) c.map.ensures.items

@@ -9,6 +9,6 @@ abbrev pub invariant-loop-i : goal.invariant-loop-i
 invariant-loop-i l = record {
   most : l.used ≤ 26 * l.i;
   inside : l.used ≤ length l.initial.out;
-  long : l.used ≡ length (sent_to l.shown l.timestamp l.i l.due);
-  front : l.out ≡ overlaid (sent_to l.shown l.timestamp l.i l.due) l.initial.out;
+  long : l.used ≡ length (sent_to l.shown l.timestamp l.i l.fn.due);
+  front : l.out ≡ overlaid (sent_to l.shown l.timestamp l.i l.fn.due) l.initial.out;
 }
