@@ -1,13 +1,11 @@
 -- What the code finds place by place is the air of the bench.
+use Rattle.std.proofs.lemmas.Bool.Decides.{nat_tests}
 use Prim.Native.Nat.{ℕ}
-use mathlib.Core.Path.{◌≡◌, refl, ap, sym, ◌∙◌}
-use mathlib.Core.Bool.{Bool, true, false}
+use mathlib.Core.Path.{◌≡◌, refl, ap, ◌∙◌}
+use mathlib.Core.Bool.{Bool}
 use mathlib.Core.List.{List, [], map}
 use native.Mathlib.Omega.{arith}
-use borrow.Author.Tests.{eqb-true, eqb-false}
-use lib.Dec.{eqb}
 use Rattle.base.specs.Lists.{how_many}
-use Rattle.base.proofs.Truths.{either_way}
 use Rattle.record.specs.Record.{seat_of}
 use Rattle.air.specs.Air.{type_of, keyings, top_rank, at_rank, leaders, added, on_air, smallest, any_sends, among, air_of, bench_air}
 use Rattle.air.specs.Marks.{standing_of, rank_of, highest, seats_at, mark_all, marks_of, leaders_at, added_at, smallest_from, sends_from, ptts_shown}
@@ -34,11 +32,7 @@ module _ (b : Bench) (standings ranks : List ℕ) (top : ℕ) (stand : standings
 
   leaders_found : leaders_at b.setup.equal_summation top b.order ranks ≡ leaders b.setup (keyings b)
   unfolding leaders_at leaders
-  leaders_found = by_top (eqb top 0) refl
-    where
-      by_top : (t : Bool) → eqb top 0 ≡ t → leaders_at b.setup.equal_summation top b.order ranks ≡ leaders b.setup (keyings b)
-      by_top true e = rw (e, ← top_found, eqb-true top 0 e, nobody) (sym (either_way b.setup.equal_summation []))
-      by_top false e = rw (e, at_found top (eqb-false top 0 e), top_found)
+  leaders_found = grind (arith, nat_tests, top_found, at_found top, nobody)
 
   added_found : added_at b.setup.coupling_summation top b.order ranks ≡ added b.setup (keyings b)
   unfolding added_at added

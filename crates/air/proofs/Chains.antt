@@ -1,7 +1,8 @@
 -- What the private functions find, in std's words, as their chains find it.
+use Rattle.std.proofs.lemmas.Bool.Decides.{nat_tests}
 use Prim.Native.Nat.{ℕ, suc, ◌+◌, ◌≤◌, max}
 use mathlib.Core.Path.{◌≡◌, refl, sym, ap, ◌∙◌}
-use mathlib.Core.Bool.{Bool, true, false, cond, not, ◌&&◌, ◌||◌}
+use mathlib.Core.Bool.{Bool, true, false, cond, not, ◌&&◌}
 use Rattle.std.specs.Prelude.{Option, Some, None}
 use mathlib.Core.List.{List, [], ◌∷◌, ◌++◌}
 use native.Mathlib.Omega.{arith}
@@ -10,15 +11,13 @@ use lib.ListN.{length, take, drop, get_or}
 use Rattle.std.specs.List.{fold, zip, list_any, count_by, position_or_len, position, remove}
 use Rattle.std.specs.Option.{option_map_or}
 use Rattle.std.proofs.lemmas.List.{drop_more}
-use Rattle.std.proofs.lemmas.Bool.{ltb-true, ltb-false, lt-ltb, le-ltb, eqb-true}
+use Rattle.std.proofs.lemmas.Bool.{ltb-true, ltb-false, lt-ltb, le-ltb}
 use Rattle.std.proofs.lemmas.List.Sums.{sum_by-cons}
 use Rattle.std.proofs.lemmas.Grind.{common_steps}
 use Rattle.std.proofs.lemmas.Slice.{put_mid-rotated}
 use Rattle.std.proofs.lemmas.List.Quantifiers.{position-Some}
 use borrow.Rule.Slice.PartMut.{put_mid, mid_of}
-use Rattle.base.specs.Bytes.{bit}
 use Rattle.base.specs.Lists.{how_many}
-use Rattle.record.specs.Record.{closed_seat}
 use Rattle.record.specs.declared.seat.Seat.{Seat}
 use Rattle.air.specs.Order.{to_last}
 use Rattle.air.specs.Marks.{highest, seats_at, first_at, smallest_from, sends_from}
@@ -26,15 +25,10 @@ use Rattle.air.specs.Marks.{highest, seats_at, first_at, smallest_from, sends_fr
 fold_max : (a : ℕ) (ranks : List ℕ) → fold max a ranks ≡ max a (highest ranks)
 unfolding highest
 fold_max a [] = omega arith
-fold_max a (r ∷ ranks) = fold_max (max a r) ranks ∙ omega arith
+fold_max a (r ∷ ranks) = grind (arith, fold_max (max a r) ranks)
 
 pub highest_found : (ranks : List ℕ) → highest ranks ≡ fold max 0 ranks
-highest_found ranks = let e = fold_max 0 ranks in omega arith
-
--- what stands behind the first place
-place_behind : (p : ℕ → Bool) (get : ℕ → ℕ) (k : ℕ) (ks : List ℕ) → p k ≡ false
-    → option_map_or get (position p (k ∷ ks)) 0 ≡ option_map_or (λ i. get (suc i)) (position p ks) 0
-place_behind p get k ks e = grind (arith, common_steps)
+highest_found ranks = grind (arith, fold_max 0 ranks)
 
 pub first_found : (r : ℕ) (order ranks : List ℕ) → first_at r order ranks ≡ option_map_or (λ i. get_or order i 0) (position (λ k. eqb k r) ranks) 0
 unfolding first_at
@@ -45,17 +39,12 @@ first_found r [] (k ∷ ranks) = sym (none_there (position (λ k. eqb k r) (k �
     none_there None = refl
     none_there (Some i) = refl
 first_found r (n ∷ order) [] = refl
-first_found r (n ∷ order) (k ∷ ranks) = by_test (eqb k r) refl (first_found r order ranks)
-  where
-    by_test : (t : Bool) → eqb k r ≡ t → first_at r order ranks ≡ option_map_or (λ i. get_or order i 0) (position (λ k. eqb k r) ranks) 0
-        → cond t n (first_at r order ranks) ≡ option_map_or (λ i. get_or (n ∷ order) i 0) (position (λ k. eqb k r) (k ∷ ranks)) 0
-    by_test true e h = rw (e, lt-ltb 0 (length (k ∷ ranks)) (omega arith))
-    by_test false e h = h ∙ sym (place_behind (λ k. eqb k r) (λ i. get_or (n ∷ order) i 0) k ranks e)
+first_found r (n ∷ order) (k ∷ ranks) = grind (arith, nat_tests, common_steps, first_found r order ranks)
 
 pub marked_found : (marks : List Bool) → how_many (λ m. m) marks ≡ count_by (λ m. m) marks
 unfolding how_many
 marked_found [] = refl
-marked_found (m ∷ marks) = ap (λ (n : ℕ). bit m + n) (marked_found marks) ∙ sym (sum_by-cons (λ m. cond m 1 0) m marks)
+marked_found (m ∷ marks) = grind (arith, common_steps, sum_by-cons, marked_found marks)
 
 pub smallest_found : (n : ℕ) (marks : List Bool) → smallest_from n marks ≡ option_map_or (λ i. i + n) (position (λ m. m) marks) 0
 unfolding smallest_from
@@ -67,7 +56,7 @@ sends_at : (i : ℕ) (seats : List Seat) (on : List Bool) → i + length on ≤ 
     → sends_from i seats on ≡ list_any (λ p. p.0 && p.1.heard.field.ptts) (zip on (drop i seats))
 unfolding sends_from
 sends_at i seats [] h = refl
-sends_at i seats (m ∷ on) h = rw (drop_more seats i closed_seat (omega arith)) (ap ((m && (get_or seats i closed_seat).heard.field.ptts) ||◌) (sends_at (i + 1) seats on (omega arith)))
+sends_at i seats (m ∷ on) h = grind (arith, common_steps, drop_more, sends_at (i + 1) seats on)
 
 pub sends_found : (seats : List Seat) (on : List Bool) → length on ≤ length seats → sends_from 0 seats on ≡ list_any (λ p. p.0 && p.1.heard.field.ptts) (zip on seats)
 sends_found seats on h = sends_at 0 seats on (omega arith)
@@ -77,13 +66,13 @@ sends_found seats on h = sends_at 0 seats on (omega arith)
 pub order_through : (r : ℕ) (order ranks : List ℕ) → length order ≡ 0 → seats_at r order ranks ≡ []
 unfolding seats_at
 order_through r [] ranks h = refl
-order_through r (n ∷ order) ranks h = absurd (omega arith)
+order_through r (n ∷ order) ranks h = grind arith
 
 pub ranks_through : (r : ℕ) (order ranks : List ℕ) → length ranks ≡ 0 → seats_at r order ranks ≡ []
 unfolding seats_at
 ranks_through r [] ranks h = refl
 ranks_through r (n ∷ order) [] h = refl
-ranks_through r (n ∷ order) (k ∷ ranks) h = absurd (omega arith)
+ranks_through r (n ∷ order) (k ∷ ranks) h = grind arith
 
 pub ruleset through = (order_through, ranks_through)
 
@@ -119,16 +108,6 @@ last_found n (k ∷ order) = by_test (eqb k n) (last_found n order)
 -- what stands in the order after `order[place..].rotate_left(1)`
 pub moved_found : (n i k : ℕ) (order turned : List ℕ) → position (λ k. eqb k n) order ≡ Some i → length order ≤ i + k
     → turned ≡ drop 1 (mid_of i k order) ++ take 1 (mid_of i k order) → put_mid i k order turned ≡ to_last n order
-moved_found n i k order turned at all e =
-    let found = position-Some (λ k. eqb k n) order i n at in
-    put_mid-rotated i k order turned n found.0 all e ∙ by_place (ltb p (length order)) at (last_found n order) (eqb-true (get_or order i n) n found.1)
-  where
-    p : ℕ
-    p = position_or_len (λ k. eqb k n) order
-
-    by_place : (t : Bool) → cond t (Some p) None ≡ Some i → to_last n order ≡ cond t (remove order p ++ (n ∷ [])) order → get_or order i n ≡ n
-        → remove order i ++ (get_or order i n ∷ []) ≡ to_last n order
-    by_place true at e here = cc
-    by_place false at e here = absurd (cc)
+moved_found n i k order turned at all e = grind (arith, nat_tests, position-Some (λ k. eqb k n) order i n at, put_mid-rotated i k order turned n, last_found n order)
 
 pub ruleset turned = (moved_found, last_found)

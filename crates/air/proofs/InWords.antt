@@ -1,18 +1,18 @@
 -- Who is on the air, held to InWords.
-use Prim.Native.Nat.{ℕ, ◌≤◌, ◌<◌}
+use Rattle.std.proofs.lemmas.Bool.Decides.{nat_tests}
+use Prim.Native.Nat.{ℕ, ◌≤◌}
 use mathlib.Core.Path.{◌≡◌, refl, sym, ap, subst, ◌∙◌}
-use mathlib.Core.Bool.{Bool, true, false, cond, not, ◌&&◌, ◌||◌, false≢true}
+use mathlib.Core.Bool.{Bool, true, false, cond, ◌&&◌, ◌||◌, false≢true}
 use mathlib.Core.List.{List, [], ◌∷◌, map}
 use mathlib.Core.Logic.{◌↔◌, ◌⊎◌, inl, inr}
 use native.Mathlib.Omega.{arith}
 use lib.Dec.{ltb, leb, eqb}
-use borrow.Author.Tests.{ltb-true, ltb-false, lt-ltb, leb-true, le-leb, eqb-true, eq-eqb, not-true}
+use borrow.Author.Tests.{ltb-true, ltb-false, leb-true, le-leb, eqb-true, eq-eqb}
 use Rattle.base.specs.Lists.{how_many}
 use Rattle.base.proofs.Truths.{and_left, and_right, or_true}
-use Rattle.packet.specs.Packet.{ptt_on}
 use Rattle.record.specs.Record.{seat_numbers, no_such_seat, entry_of, seat_of}
 use Rattle.record.proofs.Seats.{seat_in_range, each_seat, at_seat, flag_is_seat, open_is_seat}
-use Rattle.air.specs.Air.{rank, type_of, keyed, the_first, takes_part, keyings, top_rank, at_rank, leaders, added, on_air, among, smallest, any_sends, air_of, bench_air}
+use Rattle.air.specs.Air.{rank, type_of, the_first, takes_part, keyings, top_rank, at_rank, leaders, added, on_air, among, smallest, any_sends, air_of, bench_air}
 use Rattle.air.specs.InWords.{last_field, TakesPart, AtTop, place_of, Leads, all_of_them, the_first_one, IsAdded, OnAir, TellsPtts, several, sent, Shows, EachPlaced}
 use Rattle.record.specs.declared.whole.Bench.{Bench}
 use Rattle.air.proofs.Marking.{among_both}
@@ -30,29 +30,17 @@ module _ (b : Bench) where
 
   pub part_is : (n : ℕ) → takes_part b.healthy (seat_of b.seats n) ≡ true → TakesPart b n
   unfolding takes_part
-  part_is n h =
-      let s = seat_of b.seats n in
-      let ptt = s.heard.field.ptt in
-      let there = and_left (b.healthy && s.opened) (keyed s.heard.field) h in
-      let keys = and_right (b.healthy && s.opened) (keyed s.heard.field) h in
-      let on = and_left (ptt_on ptt) (not s.heard.field.pm) keys in
-      record {
-        healthy = and_left b.healthy s.opened there;
-        is_open = and_right b.healthy s.opened there;
-        not_off = ltb-true 0 ptt (and_left (ltb 0 ptt) (leb ptt 5) on);
-        known = leb-true ptt 5 (and_right (ltb 0 ptt) (leb ptt 5) on);
-        unmuted = not-true s.heard.field.pm (and_right (ptt_on ptt) (not s.heard.field.pm) keys);
-      }
+  part_is n h = record { healthy = grind (arith, nat_tests); is_open = grind (arith, nat_tests); not_off = grind (arith, nat_tests); known = grind (arith, nat_tests); unmuted = grind (arith, nat_tests) }
 
   pub is_part : (n : ℕ) → TakesPart b n → takes_part b.healthy (seat_of b.seats n) ≡ true
   unfolding takes_part
-  is_part n p = simp (p.healthy, p.is_open, p.unmuted, lt-ltb 0 (last_field b n).ptt p.not_off, le-leb (last_field b n).ptt 5 p.known)
+  is_part n p = grind (arith, nat_tests, p.healthy, p.is_open, p.unmuted, p.not_off, p.known)
 
   is_seat : (n : ℕ) → TakesPart b n → no_such_seat n ≡ false
   is_seat n p = open_is_seat b.seats n p.is_open
 
   same_type : (m n : ℕ) → TakesPart b m → TakesPart b n → rank_of m ≡ rank_of n → (last_field b m).ptt ≡ (last_field b n).ptt
-  same_type m n p q e = sym (type_of_rank _ p.not_off p.known) ∙ ap type_of e ∙ type_of_rank _ q.not_off q.known
+  same_type m n p q e = grind (arith, type_of_rank (last_field b m).ptt p.not_off p.known, type_of_rank (last_field b n).ptt q.not_off q.known)
 
   leads_part : (n : ℕ) → Leads b n → TakesPart b n
   leads_part n (all_of_them t mode) = t.part
@@ -99,7 +87,7 @@ module _ (b : Bench) where
         (part_is n (and_left part (eqb (rank_of n) r) h), eqb-true (rank_of n) r (and_right part (eqb (rank_of n) r) h))
 
     pass : (r n : ℕ) → TakesPart b n → rank_of n ≡ r → passes r n ≡ true
-    pass r n p e = simp (is_part n p, eq-eqb (rank_of n) r e)
+    pass r n p e = grind (arith, nat_tests, is_part n p)
 
     at_rank_lem : (r n : ℕ) → among (at_rank r (keyings b)) n ≡ among b.order n && passes r n
     unfolding keyings
@@ -109,7 +97,7 @@ module _ (b : Bench) where
     is_at_rank r n h = passed r n (and_right (among b.order n) (passes r n) (sym (at_rank_lem r n) ∙ h))
 
     stands_at : (r n : ℕ) → TakesPart b n → rank_of n ≡ r → among (at_rank r (keyings b)) n ≡ true
-    stands_at r n p e = at_rank_lem r n ∙ simp (in_order n p, pass r n p e)
+    stands_at r n p e = grind (arith, at_rank_lem, in_order n p, pass r n p)
 
     first_is : (n : ℕ) → among (the_first (at_rank top (keyings b))) n ≡ true
         → (m : ℕ) → TakesPart b m → (last_field b m).ptt ≡ (last_field b n).ptt → rank_of n ≡ top → place_of n b.order ≤ place_of m b.order
@@ -139,7 +127,7 @@ module _ (b : Bench) where
 
     leads_from : (n : ℕ) → Leads b n → among (leaders b.setup (keyings b)) n ≡ true
     unfolding leaders keyings
-    leads_from n (all_of_them t mode) = rw mode (stands_at top n t.part (top_rank_lem n t))
+    leads_from n (all_of_them t mode) = grind (arith, stands_at top n t.part, top_rank_lem n t)
     leads_from n (the_first_one t mode first) = rw mode (is_first n t first)
 
     added_to : (n : ℕ) → among (added b.setup (keyings b)) n ≡ true → IsAdded b n
@@ -163,9 +151,7 @@ module _ (b : Bench) where
 
     added_from : (n : ℕ) → IsAdded b n → among (added b.setup (keyings b)) n ≡ true
     unfolding added among top_rank keyings
-    added_from n a =
-        let l : 2 < top = let h = above_higher a.higher in let g = below_top a.other a.takes_part in omega arith in
-        rw (a.mode, lt-ltb 2 top l) (stands_at 2 n a.part (ap rank a.coupling))
+    added_from n a = grind (arith, nat_tests, above_higher a.higher, below_top a.other a.takes_part, stands_at 2 n a.part, a.mode, a.coupling)
 
     on_to : (n : ℕ) → among (on_air b.setup (keyings b)) n ≡ true → OnAir b n
     unfolding on_air
@@ -178,8 +164,8 @@ module _ (b : Bench) where
 
     on_from : (n : ℕ) → OnAir b n → among (on_air b.setup (keyings b)) n ≡ true
     unfolding on_air
-    on_from n (inl l) = among_both (leaders b.setup (keyings b)) (added b.setup (keyings b)) n ∙ simp (leads_from n l)
-    on_from n (inr a) = among_both (leaders b.setup (keyings b)) (added b.setup (keyings b)) n ∙ simp (added_from n a) (or_true (among (leaders b.setup (keyings b)) n))
+    on_from n (inl l) = grind (arith, among_both, leads_from n l)
+    on_from n (inr a) = grind (arith, among_both, added_from n a)
 
     -- ---- what is shown
 

@@ -1,9 +1,8 @@
 -- What the record keeps of the air: it is not read where the air is worked out, and a fresh bench has it right.
+use native.Mathlib.Omega.{arith}
 use mathlib.Core.Path.{◌≡◌, ap, refl, ◌∙◌}
-use mathlib.Core.Bool.{false, ◌&&◌}
 use mathlib.Core.List.{List, []}
 use Rattle.base.specs.Lists.{how_many}
-use Rattle.base.proofs.Truths.{either_way}
 use Rattle.record.specs.Record.{nobody, fresh_bench, seat_of}
 use Rattle.air.specs.Air.{takes_part, keyings_of, keyings, top_rank, at_rank, leaders, added, on_air, among, smallest, any_sends, air_of, bench_air, aired}
 use Rattle.record.specs.declared.setup.Setup.{Setup}
@@ -19,15 +18,15 @@ air_unread b = refl
 module _ (setup : Setup) where
   leaders_none : leaders setup [] ≡ []
   unfolding leaders at_rank top_rank
-  leaders_none = either_way setup.equal_summation []
+  leaders_none = grind arith
 
   added_none : added setup [] ≡ []
   unfolding added at_rank top_rank
-  added_none = either_way (setup.coupling_summation && false) []
+  added_none = grind arith
 
   on_none : on_air setup [] ≡ []
   unfolding on_air
-  on_none = rw (leaders_none, added_none)
+  on_none = grind (arith, leaders_none, added_none)
 
   none_shown : (seats : List Seat) → air_of setup seats [] ≡ nobody
   unfolding air_of

@@ -1,7 +1,9 @@
 -- Marks of a list of seats: one mark more is one seat more in the list.
+use Rattle.std.proofs.lemmas.Bool.Decides.{nat_tests}
+use native.Mathlib.Omega.{arith}
 use Prim.Native.Nat.{ℕ, ◌-◌}
 use mathlib.Core.Path.{◌≡◌, refl, ap, sym, ◌∙◌}
-use mathlib.Core.Bool.{Bool, true, false, cond, ◌||◌, or_assoc, or-false, true≢false}
+use mathlib.Core.Bool.{Bool, true, false, cond, ◌||◌, or-false, true≢false}
 use mathlib.Core.List.{List, [], ◌∷◌, ◌++◌, append_assoc, append-nil}
 use lib.Dec.{eqb}
 use lib.ListN.{set, replicate}
@@ -15,7 +17,7 @@ use Rattle.air.specs.Marks.{seats_at, first_at, mark_all, marks_of}
 pub among_both : (ns ms : List ℕ) (j : ℕ) → among (ns ++ ms) j ≡ among ns j || among ms j
 unfolding among
 among_both [] ms j = refl
-among_both (n ∷ ns) ms j = rw (among_both ns ms j) (sym (or_assoc (eqb n j) (among ns j) (among ms j)))
+among_both (n ∷ ns) ms j = grind (arith, among_both ns ms j)
 
 -- one seat more; what is no seat's number leaves no mark
 mark_one : (ns : List ℕ) (n : ℕ) → with_entry (marks_of ns) n true ≡ marks_of (ns ++ (n ∷ []))
@@ -53,11 +55,6 @@ pub mark_first_of : (r : ℕ) (order ranks : List ℕ) → marks_of (the_first (
 unfolding first_at seats_at marks_of among
 mark_first_of r [] ranks = refl
 mark_first_of r (n ∷ order) [] = refl
-mark_first_of r (n ∷ order) (k ∷ ranks) = by_test (eqb k r) (mark_first_of r order ranks)
-  where
-    by_test : (t : Bool) → marks_of (the_first (seats_at r order ranks)) ≡ with_entry (replicate 8 false) (first_at r order ranks) true
-        → marks_of (the_first (cond t (n ∷ seats_at r order ranks) (seats_at r order ranks))) ≡ with_entry (replicate 8 false) (cond t n (first_at r order ranks)) true
-    by_test true h = sym (mark_one [] n)
-    by_test false h = h
+mark_first_of r (n ∷ order) (k ∷ ranks) = grind (arith, nat_tests, mark_one [] n, mark_first_of r order ranks)
 
 pub ruleset marked = (mark_all_of, mark_first_of)

@@ -1,12 +1,13 @@
 -- Ranks and keyings, in 01's words: what stands above what, and what the top rank is.
+use Rattle.std.proofs.lemmas.Bool.Decides.{nat_tests}
 use Prim.Native.Nat.{ℕ, zero, suc, ◌≤◌, ◌<◌}
-use mathlib.Core.Path.{◌≡◌, refl, sym, ap, ◌∙◌}
-use mathlib.Core.Bool.{Bool, true, false, cond, ◌&&◌, ◌||◌, false≢true}
+use mathlib.Core.Path.{◌≡◌, refl}
+use mathlib.Core.Bool.{Bool, true, false, cond, ◌&&◌, false≢true}
 use mathlib.Core.List.{List, [], ◌∷◌}
 use mathlib.Core.Logic.{◌⊎◌, inl, inr}
 use native.Mathlib.Omega.{arith}
-use lib.Dec.{leb, eqb, lit≤}
-use borrow.Author.Tests.{leb-true, leb-false, eqb-true}
+use lib.Dec.{leb, eqb}
+use borrow.Author.Tests.{leb-true, leb-false}
 use Rattle.record.specs.Record.{seat_of}
 use Rattle.air.specs.Air.{rank, type_of, takes_part, keying_of, keyings_of, top_rank, at_rank, among}
 use Rattle.air.specs.InWords.{◌above◌, coupling_test, normal_test, normal_coupling, priority_test, priority_coupling, priority_normal, emergency_test, emergency_coupling, emergency_normal, emergency_priority}
@@ -57,7 +58,7 @@ pub type_of_rank : (p : ℕ) → 1 ≤ p → p ≤ 5 → type_of (rank p) ≡ p
 type_of_rank = each_type (λ p. type_of (rank p) ≡ p) (refl, refl, refl, refl, refl)
 
 pub ranked : (p : ℕ) → 1 ≤ p → p ≤ 5 → 1 ≤ rank p
-ranked = each_type (λ p. 1 ≤ rank p) (lit≤ tt, lit≤ tt, lit≤ tt, lit≤ tt, lit≤ tt)
+ranked = each_type (λ p. 1 ≤ rank p) (omega arith, omega arith, omega arith, omega arith, omega arith)
 
 -- ---- keyings
 
@@ -68,26 +69,12 @@ module _ (healthy : Bool) (seats : List Seat) where
   pub at_chosen : (r : ℕ) (ns : List ℕ) → at_rank r (keyings_of healthy seats ns) ≡ chosen (λ n. takes_part healthy (seat_of seats n) && eqb (rank_at n) r) ns
   unfolding at_rank keyings_of
   at_chosen r [] = refl
-  at_chosen r (n ∷ ns) = by_case (takes_part healthy (seat_of seats n)) (eqb (rank_at n) r) refl refl (at_chosen r ns)
-    where
-      by_case : (a c : Bool) → takes_part healthy (seat_of seats n) ≡ a → eqb (rank_at n) r ≡ c
-          → at_rank r (keyings_of healthy seats ns) ≡ chosen (λ n. takes_part healthy (seat_of seats n) && eqb (rank_at n) r) ns
-          → at_rank r (keyings_of healthy seats (n ∷ ns)) ≡ chosen (λ n. takes_part healthy (seat_of seats n) && eqb (rank_at n) r) (n ∷ ns)
-      by_case true true p q rest = simp (p, q, rest)
-      by_case true false p q rest = simp (p, q, rest)
-      by_case false c p q rest = simp (p, rest)
+  at_chosen r (n ∷ ns) = grind (arith, nat_tests, at_chosen r ns)
 
   pub top_most : (ns : List ℕ) (n : ℕ) → among ns n ≡ true → takes_part healthy (seat_of seats n) ≡ true → rank_at n ≤ top_rank (keyings_of healthy seats ns)
   unfolding among keyings_of top_rank
   top_most [] n h part = absurd (false≢true h)
-  top_most (k ∷ ns) n h part = by_case (eqb k n) (takes_part healthy (seat_of seats k)) refl refl h (λ e. top_most ns n e part)
-    where
-      by_case : (a c : Bool) → eqb k n ≡ a → takes_part healthy (seat_of seats k) ≡ c → a || among ns n ≡ true
-          → (among ns n ≡ true → rank_at n ≤ top_rank (keyings_of healthy seats ns)) → rank_at n ≤ top_rank (cond c (keying_of seats k ∷ keyings_of healthy seats ns) (keyings_of healthy seats ns))
-      by_case true true p q e rest = rw (← eqb-true k n p) (omega arith)
-      by_case true false p q e rest = absurd (false≢true (sym q ∙ ap (λ (j : ℕ). takes_part healthy (seat_of seats j)) (eqb-true k n p) ∙ part))
-      by_case false true p q e rest = let l = rest e in omega arith
-      by_case false false p q e rest = rest e
+  top_most (k ∷ ns) n h part = grind (arith, nat_tests, top_most ns n)
 
   abbrev pub Met : ℕ → Type 0
   Met top = (m : ℕ) × (takes_part healthy (seat_of seats m) ≡ true) × (rank_at m ≡ top)
@@ -108,4 +95,4 @@ module _ (healthy : Bool) (seats : List Seat) where
   pub none_keyed : (ns : List ℕ) → ((n : ℕ) → takes_part healthy (seat_of seats n) ≡ false) → keyings_of healthy seats ns ≡ []
   unfolding keyings_of
   none_keyed [] h = refl
-  none_keyed (n ∷ ns) h = simp (h n, none_keyed ns h)
+  none_keyed (n ∷ ns) h = grind (arith, h n, none_keyed ns h)

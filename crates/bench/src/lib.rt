@@ -4,12 +4,9 @@
 #![tactic(auto)]
 
 pub use air::aired;
-pub use hearing::{Hearing, PacketAnswer, Packeted, TotalsAnswer, audio, packet, totals};
-pub use record::{Air, Bench, Kind, Setup, Totals, kind_code};
+pub use hearing::{Hearing, audio, packet, totals};
+pub use record::{Air, Answered, Bench, Kind, Setup, Totals, kind_code};
 pub use relaying::{Relayed, relay};
-pub use reporting::{Reported, report};
-pub use seats::{
-    CallType, Done, DoneAnswer, OpenAnswer, Opened, Request, close, open, received, side,
-    silence_cause, transmitter,
-};
+pub use reporting::report;
+pub use seats::{CallType, Request, close, open, received, side, silence_cause, transmitter};
 pub use sending::{SeatSets, Ticked, tick};

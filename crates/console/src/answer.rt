@@ -4,11 +4,10 @@ use crate::say::{
 };
 use crate::usage::{expected, help};
 use base::part;
-use bench::{Bench, Setup, kind_code};
+use bench::{Answered, Bench, Setup, kind_code};
 use grammar::{Call, Lent, ROOM, SetupSaid};
 use packet::{Refusal, quality};
 use reader::{payload, read_rx, read_tx};
-use record::Answered;
 use show::{refusal_line, rx_line, tx_line};
 use std::array;
 use text::Line;

@@ -2,7 +2,8 @@
 -- record says of the air is what 01's sentences (bench_air) say of its seats.
 use Rattle.std.specs.Prelude.{ℕ, ◌≡◌, List}
 use Rattle.packet.specs.Refusals.{NoCase, accepted}
-use Rattle.writer.specs.Writing.{from_rx, encode}
+use Rattle.packet.specs.Messages.{from_rx}
+use Rattle.writer.specs.Writing.{encode}
 use Rattle.record.specs.Record.{fresh_bench}
 use Rattle.air.specs.Air.{bench_air}
 use Rattle.reporting.specs.Reporting.{report_of}

@@ -3,6 +3,12 @@
 -- (`Reads.requires`, in every model of the logic; true where none is written).
 use package.base.Logic.{ent, emp}
 use borrow.Fn.World.{World, Pr}
+use contract.BorrowLft.{◌⊑◌}
+use contract.Lifetimes.{Lfts}
+use denote.RattleType.{RattleType}
+use denote.Param.Laws.{Laws, IsCopy}
+use mir.Syntax.{Dict}
+use Rattle.std.specs.declared.clone.Clone.{Ghosts}
 use Rattle.base.proofs as base
 use Rattle.packet.proofs as packet
 use Rattle.reader.proofs as reader
@@ -25,6 +31,14 @@ use Rattle.grammar.proofs as grammar
 -- more than one fact.)
 abbrev pub NothingAsked : {K : Type 0} {A : K → Type 0} → (requires : (k : K) → A k → (ghost : Unit {0}) → (w : World) → Pr w) → Type 2
 NothingAsked {K} {A} requires = (k : K) (a : A k) (w : World) → ent w.𝓤 (emp w.𝓤) (requires k a tt w)
+
+-- The same of a generic function, at each type whose values are copied, where those that are lent outlive the loan: without that there is no
+-- such loan.
+abbrev pub NothingAskedOfEach : {A : RattleType → Lfts 2 → Type 0}
+    → (requires : (T : RattleType) → Laws T → IsCopy T → Ghosts T.Denot → Dict → (k : Lfts 2) → A T k → (ghost : Unit {0}) → (w : World) → Pr w) → Type 2
+NothingAskedOfEach {A} requires =
+    (T : RattleType) (laws : Laws T) (copied : IsCopy T) (clone : Ghosts T.Denot) (dict : Dict) (k : Lfts 2) (a : A T k) (w : World)
+    → k.1.0 ⊑ T.lives → ent w.𝓤 (emp w.𝓤) (requires T laws copied clone dict k a tt w)
 
 pub record AsksNothingBase : Type 2 where
   pub byte_at : NothingAsked base.byte_at.Reads.requires
@@ -73,6 +87,8 @@ pub record AsksNothingRecord : Type 2 where
   pub opened : NothingAsked the_record.seat.Seat.opened.Reads.requires
   pub fresh : NothingAsked the_record.whole.Bench.fresh.Reads.requires
   pub no_such_seat : NothingAsked the_record.no_such_seat.Reads.requires
+  pub entry_of : NothingAskedOfEach the_record.entry_of.Reads.requires
+  pub set_entry : NothingAskedOfEach the_record.set_entry.Reads.requires
   pub flag_of : NothingAsked the_record.flag_of.Reads.requires
   pub seat_of : NothingAsked the_record.seat_of.Reads.requires
   pub lesson_seat : NothingAsked the_record.lesson_seat.Reads.requires
@@ -115,12 +131,14 @@ pub record AsksNothingSending : Type 2 where
   pub tick : NothingAsked sending.tick.Reads.requires
 
 pub record AsksNothingText : Type 2 where
-  pub put_byte : NothingAsked text.put_byte.Reads.requires
-  pub put : NothingAsked text.put.Reads.requires
-  pub put_bit : NothingAsked text.put_bit.Reads.requires
-  pub put_number : NothingAsked text.put_number.Reads.requires
-  pub put_hex : NothingAsked text.put_hex.Reads.requires
-  pub put_bytes : NothingAsked text.put_bytes.Reads.requires
+  pub new : NothingAsked text.out.Line.new.Reads.requires
+  pub put_byte : NothingAsked text.out.Line.put_byte.Reads.requires
+  pub put : NothingAsked text.out.Line.put.Reads.requires
+  pub put_bit : NothingAsked text.out.Line.put_bit.Reads.requires
+  pub put_number : NothingAsked text.out.Line.put_number.Reads.requires
+  pub put_hex : NothingAsked text.out.Line.put_hex.Reads.requires
+  pub put_bytes : NothingAsked text.out.Line.put_bytes.Reads.requires
+  pub text : NothingAsked text.out.Line.text.Reads.requires
 
 pub record AsksNothingWords : Type 2 where
   pub word : NothingAsked words.word.Reads.requires
@@ -148,7 +166,7 @@ pub record AsksNothingGrammar : Type 2 where
   pub named : NothingAsked grammar.named.Reads.requires
   pub parsed : NothingAsked grammar.parsed.Reads.requires
 
--- All 90.
+-- All 92.
 pub record AsksNothing : Type 2 where
   pub base : AsksNothingBase
   pub packet : AsksNothingPacket

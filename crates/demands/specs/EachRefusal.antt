@@ -1,17 +1,16 @@
--- Second witness of `reader` (read_tx, read_rx), `writer` (from_tx, from_rx, encode, write), `seats`, `hearing`, `reporting`, `sending`: 01, What is turned
+-- Second witness of `packet` (from_tx, from_rx), `reader` (read_tx, read_rx), `writer` (encode, write), `seats`, `hearing`, `reporting`, `sending`: 01, What is turned
 -- away: a row for each number, with its cause, next to a packet that is read and written with every byte of its head different, so that
 -- byte order and bit places are fixed by this table. (33 is in TotalsBound; 19 to 23 and 33 for every packet: PacketTells; 13 to 18 and 24
 -- to 26 for every call: Limits.)
-use Rattle.std.specs.Prelude.{ℕ, ◌≡◌, true, false, List, [], ◌∷◌, ◌++◌, replicate, take}
+use Rattle.std.specs.Prelude.{ℕ, ◌≡◌, true, false, List, [], ◌∷◌, ◌++◌, replicate, take, Option, None, Some}
 use Rattle.packet.specs.Refusals.{Answer, accepted, refused}
 use Rattle.reader.specs.Reading.{read_tx, read_rx}
-use Rattle.writer.specs.Writing.{from_tx, from_rx, encode, write}
-use Rattle.packet.specs.declared.message.SqiItem.TheVariants as sqi
-use Rattle.packet.specs.declared.message.ClimaxItem.TheVariants as climax
-use Rattle.packet.specs.declared.message.SideItem.{SideItem}
-use Rattle.packet.specs.declared.message.SideItem.TheVariants as item
+use Rattle.writer.specs.Writing.{encode, write}
 use Rattle.packet.specs.declared.message.Tx.{Tx}
 use Rattle.packet.specs.declared.message.Rx.{Rx}
+use Rattle.packet.specs.Messages.{from_tx, from_rx}
+use Rattle.packet.specs.declared.message.Side.TheVariants.{Main, Standby}
+use Rattle.packet.specs.declared.message.Side.{Side}
 use Rattle.record.specs.Record.{fresh_bench}
 use Rattle.bench.specs.Step.{Call, opening, closing, packet, tick, report, side, totals, Said, keeping, after}
 use Rattle.record.specs.declared.setup.Setup.{Setup}
@@ -31,7 +30,7 @@ fine = worded 0x20 0xA0
 
 abbrev pub fine_says : Tx
 fine_says =
-    record { sequence = 258; timestamp = 50595078; ssrc = 117967114; ptt = 1; id = 2; pm = true; ptts = false; climax = climax.Absent; side = item.Absent }
+    record { sequence = 258; timestamp = 50595078; ssrc = 117967114; ptt = 1; id = 2; pm = true; ptts = false; climax = None; side = None }
 
 -- Every field set, no two bits alike: Priority, id 45, muted, a delay of 37, standby; and of RX with SQU and SCT, quality 13 by C/N, main.
 abbrev pub full_tx : List ℕ
@@ -39,7 +38,7 @@ full_tx = headed 0x90 0x7B ++ 0x01 ∷ 0x67 ∷ 0x00 ∷ 0x02 ∷ 0x6B ∷ 0x61 
 
 abbrev pub full_tx_says : Tx
 full_tx_says =
-    record { sequence = 258; timestamp = 50595078; ssrc = 117967114; ptt = 3; id = 45; pm = true; ptts = false; climax = climax.Is 37; side = item.Standby }
+    record { sequence = 258; timestamp = 50595078; ssrc = 117967114; ptt = 3; id = 45; pm = true; ptts = false; climax = Some 37; side = Some Standby }
 
 abbrev pub full_rx : List ℕ
 full_rx = headed 0x90 0x7B ++ 0x01 ∷ 0x67 ∷ 0x00 ∷ 0x02 ∷ 0x7B ∷ 0x69 ∷ 0x11 ∷ 0x6A ∷ 0x51 ∷ 0x00 ∷ 0x00 ∷ 0x00 ∷ []
@@ -56,8 +55,8 @@ full_rx_says =
       pm = true;
       ptts = false;
       sct = true;
-      sqi = sqi.Is 13 2;
-      side = item.Main;
+      sqi = Some (record { quality = 13; method = 2 });
+      side = Some Main;
     }
 
 -- seat 8 is a lesson seat; a single radio (kind 0), lockout, interruption
@@ -68,9 +67,9 @@ abbrev pub opens : (n : ℕ) → CallType → (period multiplier : ℕ) → Call
 opens n call period multiplier = opening n (record { call = call; period = period; multiplier = multiplier; ssrc = 7; sequence = 1 })
 
 -- a packet without audio for seat n: its number, SSRC, PTT type, ptt-id and side item
-abbrev pub sends : (n sequence ssrc ptt id : ℕ) → SideItem → Call
+abbrev pub sends : (n sequence ssrc ptt id : ℕ) → Option Side → Call
 sends n sequence ssrc ptt id s =
-    packet n (encode 0x0167 (from_tx (record { sequence = sequence; timestamp = 0; ssrc = ssrc; ptt = ptt; id = id; pm = false; ptts = false; climax = climax.Absent; side = s })) [])
+    packet n (encode 0x0167 (from_tx (record { sequence = sequence; timestamp = 0; ssrc = ssrc; ptt = ptt; id = id; pm = false; ptts = false; climax = None; side = s })) [])
 
 abbrev pub answer_of : List Call → Call → Answer Said
 answer_of run c = (keeping (after keeping (fresh_bench school) run) c).answer
@@ -92,7 +91,7 @@ abbrev pub open2 : List Call
 open2 = opens 2 TxRx 200 10 ∷ []
 
 abbrev pub heard2 : List Call
-heard2 = opens 2 TxRx 200 10 ∷ sends 2 10 5 1 2 item.Absent ∷ []
+heard2 = opens 2 TxRx 200 10 ∷ sends 2 10 5 1 2 None ∷ []
 
 abbrev pub rows : List Row
 rows =
@@ -136,15 +135,15 @@ rows =
     ∷ calls 16 0 [] (opens 2 TxRx 200 51)
     ∷ calls 17 0 [] (opens 8 Coupling 200 10)
     ∷ calls 18 2005 (opens 1 Coupling 200 10 ∷ []) (opens 2 Coupling 200 10)
-    ∷ calls 19 0 heard2 (sends 2 11 6 1 2 item.Absent)
-    ∷ calls 20 0 heard2 (sends 2 10 5 1 2 item.Absent)
-    ∷ calls 20 0 heard2 (sends 2 32778 5 1 2 item.Absent)
-    ∷ calls 21 0 (opens 2 Idle 200 10 ∷ []) (sends 2 1 5 1 0 item.Absent)
-    ∷ calls 21 0 (opens 2 RxOnly 200 10 ∷ []) (sends 2 1 5 1 0 item.Absent)
-    ∷ calls 21 0 open2 (sends 2 1 5 2 2 item.Absent)
-    ∷ calls 21 0 (opens 8 TxRx 200 10 ∷ []) (sends 8 1 5 1 8 item.Absent)
-    ∷ calls 22 0 open2 (sends 2 1 5 1 3 item.Absent)
-    ∷ calls 23 0 open2 (sends 2 1 5 1 2 item.Main)
+    ∷ calls 19 0 heard2 (sends 2 11 6 1 2 None)
+    ∷ calls 20 0 heard2 (sends 2 10 5 1 2 None)
+    ∷ calls 20 0 heard2 (sends 2 32778 5 1 2 None)
+    ∷ calls 21 0 (opens 2 Idle 200 10 ∷ []) (sends 2 1 5 1 0 None)
+    ∷ calls 21 0 (opens 2 RxOnly 200 10 ∷ []) (sends 2 1 5 1 0 None)
+    ∷ calls 21 0 open2 (sends 2 1 5 2 2 None)
+    ∷ calls 21 0 (opens 8 TxRx 200 10 ∷ []) (sends 8 1 5 1 8 None)
+    ∷ calls 22 0 open2 (sends 2 1 5 1 3 None)
+    ∷ calls 23 0 open2 (sends 2 1 5 1 2 (Some Main))
     ∷ calls 23 0 [] (side true)
     ∷ calls 24 0 [] (tick 1001 0 208)
     ∷ calls 25 0 open2 (report 2 0 (replicate 80 0xD5) 512)
@@ -162,5 +161,5 @@ pub record EachRefusal : Type 0 where
   pub writes_rx : encode 0x0167 (from_rx full_rx_says) [] ≡ full_rx
   pub turned_away : AllRows rows
   -- 27: a ptt-id of seven bits
-  pub unwritable : write 0x0167 (from_tx (record { sequence = 258; timestamp = 0; ssrc = 5; ptt = 1; id = 64; pm = true; ptts = false; climax = climax.Absent; side = item.Absent })) [] 512
+  pub unwritable : write 0x0167 (from_tx (record { sequence = 258; timestamp = 0; ssrc = 5; ptt = 1; id = 64; pm = true; ptts = false; climax = None; side = None })) [] 512
       ≡ refused 27 0

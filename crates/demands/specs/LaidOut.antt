@@ -1,22 +1,21 @@
--- Second witness of `packet` (payload), `items`, `reader` (items_here, read, read_tx, read_rx): 01, The packet: a packet is accepted exactly
+-- Second witness of `packet` (payload, from_tx, from_rx), `items`, `reader` (items_here, read, read_tx, read_rx): 01, The packet: a packet is accepted exactly
 -- if it is laid out of the parts that 01 allows. This is Inversion with its converse: CSRC words, a payload type with a payload that fits
 -- it, the message, allowed items in any order, and any word count from the fewest to 15.
-use Rattle.std.specs.Prelude.{ℕ, ◌+◌, ◌*◌, ◌^◌, ◌≤◌, ◌<◌, ◌≡◌, false, List, [], ◌∷◌, ◌↔◌, length}
+use Rattle.std.specs.Prelude.{ℕ, ◌+◌, ◌*◌, ◌^◌, ◌≤◌, ◌<◌, ◌≡◌, false, List, [], ◌∷◌, ◌↔◌, length, None, Some}
 use Rattle.base.specs.Bytes.{Bytes, bytes8, placed}
 use Rattle.packet.specs.Packet.{payload}
 use Rattle.packet.specs.Items.{Item}
 use Rattle.packet.specs.Refusals.{accepted}
 use Rattle.reader.specs.Reading.{items_here, read, read_tx, read_rx}
-use Rattle.writer.specs.Writing.{from_tx, from_rx, fewest_words}
+use Rattle.writer.specs.Writing.{fewest_words}
 use Rattle.packet.specs.declared.message.Direction.{Direction}
 use Rattle.packet.specs.declared.message.Direction.TheVariants as direction
-use Rattle.packet.specs.declared.message.SqiItem.TheVariants as sqi
-use Rattle.packet.specs.declared.message.ClimaxItem.TheVariants as climax
-use Rattle.packet.specs.declared.message.SideItem.TheVariants as side
 use Rattle.packet.specs.declared.message.Items.{Items}
 use Rattle.packet.specs.declared.message.Message.{Message}
 use Rattle.packet.specs.declared.message.Tx.{Tx}
 use Rattle.packet.specs.declared.message.Rx.{Rx}
+use Rattle.packet.specs.Messages.{from_tx, from_rx}
+use Rattle.packet.specs.declared.message.Side.TheVariants.{Main, Standby}
 use Rattle.demands.specs.Inversion.{laid}
 use Rattle.demands.specs.RoundTrip.{Narrow}
 
@@ -68,10 +67,10 @@ EachOnce (i ∷ is) = NoneOf i.type is × EachOnce is
 
 -- What an item tells of the message that keeps it. Of type 4, 02: "its value isn't kept".
 abbrev pub Told : (d : Direction) (i : Item) → Stands d i → Items → Type 0
-Told direction.Rx _ (a_quality quality method h) k = k.sqi ≡ sqi.Is quality method
-Told direction.Tx _ (a_delay delay h) k = k.climax ≡ climax.Is delay
-Told d _ (main _) k = k.side ≡ side.Main
-Told d _ (standby _) k = k.side ≡ side.Standby
+Told direction.Rx _ (a_quality quality method h) k = k.sqi ≡ Some (record { quality = quality; method = method })
+Told direction.Tx _ (a_delay delay h) k = k.climax ≡ Some delay
+Told d _ (main _) k = k.side ≡ Some Main
+Told d _ (standby _) k = k.side ≡ Some Standby
 Told d _ (stepped_over _ value h) k = Unit {0}
 
 abbrev pub AllTold : (d : Direction) (is : List Item) → AllStand d is → Items → Type 0
@@ -81,9 +80,9 @@ AllTold d (i ∷ is) stand k = Told d i stand.0 k × AllTold d is stand.1 k
 -- A message keeps what its items tell, wherever they stand, and nothing else.
 pub record Keeps (d : Direction) (is : List Item) (stand : AllStand d is) (k : Items) : Type 0 where
   pub tells_all : AllTold d is stand k
-  pub no_sqi : NoneOf 1 is → k.sqi ≡ sqi.Absent
-  pub no_climax : NoneOf 2 is → k.climax ≡ climax.Absent
-  pub no_side : NoneOf 5 is → k.side ≡ side.Absent
+  pub no_sqi : NoneOf 1 is → k.sqi ≡ None
+  pub no_climax : NoneOf 2 is → k.climax ≡ None
+  pub no_side : NoneOf 5 is → k.side ≡ None
 
 -- The parts that may be laid out as a packet of a direction that says the message.
 pub record MayStand (d : Direction) (csrc : List ℕ) (kind ext words : ℕ) (m : Message) (is : List Item) (sound : List ℕ) : Type 0 where

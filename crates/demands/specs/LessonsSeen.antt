@@ -1,12 +1,11 @@
 -- Demand 3's exceptions do occur: two runs, alike but for a lesson seat, in which live seats see that seat's Test keying. And
 -- a live keying above Test wins over a lesson keying that began first.
-use Rattle.std.specs.Prelude.{ℕ, ◌≡◌, Bool, true, false, List, [], ◌∷◌, drop, replicate}
+use Rattle.std.specs.Prelude.{ℕ, ◌≡◌, Bool, true, false, List, [], ◌∷◌, drop, replicate, None}
 use Rattle.packet.specs.Packet.{normal, test}
 use Rattle.packet.specs.Refusals.{Answer, accepted}
-use Rattle.writer.specs.Writing.{from_tx, encode}
-use Rattle.packet.specs.declared.message.ClimaxItem.TheVariants as climax
-use Rattle.packet.specs.declared.message.SideItem.TheVariants as side
+use Rattle.writer.specs.Writing.{encode}
 use Rattle.packet.specs.declared.message.Tx.{Tx}
+use Rattle.packet.specs.Messages.{from_tx}
 use Rattle.record.specs.Kind.{kind_code}
 use Rattle.record.specs.Record.{seat_numbers, fresh_bench}
 use Rattle.bench.specs.Step.{Call, opening, packet, report, Said, heard, written, keeping, after}
@@ -44,8 +43,8 @@ keying n ptt sequence ptts =
       id = n;
       pm = false;
       ptts = ptts;
-      climax = climax.Absent;
-      side = side.Absent;
+      climax = None;
+      side = None;
     }
 
 abbrev pub keys : (n ptt sequence : ℕ) → Call

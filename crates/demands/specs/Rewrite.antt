@@ -6,11 +6,12 @@ use Rattle.packet.specs.Packet.{payload}
 use Rattle.packet.specs.Items.{ddc_type, has_type}
 use Rattle.packet.specs.Refusals.{accepted}
 use Rattle.reader.specs.Reading.{items_here, read, read_tx, read_rx}
-use Rattle.writer.specs.Writing.{from_tx, from_rx, encode, writable, write, buffered}
+use Rattle.writer.specs.Writing.{encode, writable, write, buffered}
 use Rattle.packet.specs.declared.message.Direction.{Direction}
 use Rattle.packet.specs.declared.message.Message.{Message}
 use Rattle.packet.specs.declared.message.Tx.{Tx}
 use Rattle.packet.specs.declared.message.Rx.{Rx}
+use Rattle.packet.specs.Messages.{from_tx, from_rx}
 use Rattle.demands.specs.Plain.{Plain}
 
 -- No item of the packet is of type 4.

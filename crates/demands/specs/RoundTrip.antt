@@ -3,10 +3,11 @@ use Rattle.std.specs.Prelude.{ℕ, ◌<◌, ◌^◌, ◌≡◌, true, List, leng
 use Rattle.packet.specs.Packet.{payload}
 use Rattle.packet.specs.Refusals.{accepted}
 use Rattle.reader.specs.Reading.{read_tx, read_rx}
-use Rattle.writer.specs.Writing.{from_tx, from_rx, encode, writable, write, buffered}
+use Rattle.writer.specs.Writing.{encode, writable, write, buffered}
 use Rattle.packet.specs.declared.message.Message.{Message}
 use Rattle.packet.specs.declared.message.Tx.{Tx}
 use Rattle.packet.specs.declared.message.Rx.{Rx}
+use Rattle.packet.specs.Messages.{from_tx, from_rx}
 use Rattle.record.specs.declared.whole.Bench.{Bench}
 use Rattle.reporting.specs.Reporting.{report_of, report_said, report_bytes}
 use Rattle.demands.specs.AirKept.{AirRight}

@@ -1,12 +1,12 @@
 -- 02, request 10, of main and standby behind one address: "Reports carry the main/standby item with 0, whichever side is in use. An item of 0
 -- is accepted and moves nothing; the radio's own side event still moves the side. .. Refusals: 23 also for an item of 1 here; a lesson seat's
 -- item is still refused."
-use Rattle.std.specs.Prelude.{ℕ, ◌≡◌, Bool, true, false, List, [], ◌∷◌}
+use Rattle.std.specs.Prelude.{ℕ, ◌≡◌, Bool, true, false, List, [], ◌∷◌, Some}
 use Rattle.packet.specs.Refusals.{accepted, refused}
 use Rattle.reader.specs.Reading.{read_rx}
-use Rattle.writer.specs.Writing.{from_rx}
-use Rattle.packet.specs.declared.message.SideItem.TheVariants as item
 use Rattle.packet.specs.declared.message.Rx.{Rx}
+use Rattle.packet.specs.Messages.{from_rx}
+use Rattle.packet.specs.declared.message.Side.TheVariants.{Main}
 use Rattle.record.specs.Kind.{kind_code, kind_of}
 use Rattle.record.specs.Record.{fresh_bench, seat_of, lesson, with_side}
 use Rattle.air.specs.Air.{aired}
@@ -66,7 +66,7 @@ pub record SharedRadio : Type 0 where
       → (keeping b (packet n p)).answer ≡ accepted said → has_side (message_in p).side ≡ false
   -- "Reports carry the main/standby item with 0": in the message that a report is made of, and read back from its bytes (those of a tick's
   -- reports too: AsSingles)
-  pub zero_told : (b : Bench) (n timestamp : ℕ) → IsShared b → (report_of b n timestamp).side ≡ item.Main
+  pub zero_told : (b : Bench) (n timestamp : ℕ) → IsShared b → (report_of b n timestamp).side ≡ Some Main
   pub zero_read : (b : Bench) → AirRight b → (n timestamp : ℕ) (sound : List ℕ) (room : ℕ) (bytes : List ℕ) → IsShared b
       → Narrow b.setup.ext (from_rx (report_of b n timestamp)) → (keeping b (report n timestamp sound room)).answer ≡ accepted (written bytes)
-      → (m : Rx) × (read_rx b.setup.ext bytes ≡ accepted m) × (m.side ≡ item.Main)
+      → (m : Rx) × (read_rx b.setup.ext bytes ≡ accepted m) × (m.side ≡ Some Main)

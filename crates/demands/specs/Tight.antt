@@ -4,6 +4,10 @@
 -- cites the `ensures` that stands in the code, as the kit reads it (`Reads.Learnt`, what a caller may rely on).
 use Rattle.std.specs.Prelude.{ℕ, ◌≡◌, List}
 use Rattle.std.specs.Borrow.{Bor, MutBor}
+use denote.RattleType.{RattleType}
+use denote.Param.Laws.{Laws, IsCopy}
+use mir.Syntax.{Dict}
+use Rattle.std.specs.declared.clone.Clone.{Ghosts}
 use Rattle.base.proofs as base
 use Rattle.packet.proofs as packet
 use Rattle.reader.proofs as reader
@@ -16,6 +20,7 @@ use Rattle.hearing.proofs as hearing
 use Rattle.framing.proofs as framing
 use Rattle.reporting.proofs as reporting
 use Rattle.sending.proofs as sending
+use Rattle.text.specs.declared.out.Line.{Line}
 use Rattle.text.proofs as text
 use Rattle.words.proofs as words
 use Rattle.show.proofs as show
@@ -32,10 +37,35 @@ abbrev pub OneResultAndBuffer : {K : Type 0} {A R E : K → Type 0} → (promise
 OneResultAndBuffer {K} {A} {R} {E} promise lent =
     (k : K) (a : A k) (r s : R k) (d e : E k) → promise k a r d → promise k a s e → (r ≡ s) × ((lent k d).now ≡ (lent k e).now)
 
+-- The same where a line is lent: any two places that it is left at, and any two contents of its buffer, which it stays in.
+abbrev pub SameLine : Line → Line → Type 0
+SameLine l m = (l.at ≡ m.at) × (l.out.now ≡ m.out.now) × (l.out.ghost_name ≡ m.out.ghost_name)
+
+abbrev pub OneLine : {K : Type 0} {A R E : K → Type 0} → (promise : (k : K) → A k → R k → E k → Type 0)
+    → (lent : (k : K) → E k → MutBor Line) → Type 0
+OneLine {K} {A} {R} {E} promise lent =
+    (k : K) (a : A k) (r s : R k) (d e : E k) → promise k a r d → promise k a s e → SameLine (lent k d).now (lent k e).now
+
+abbrev pub OneNewLine : {K : Type 0} {A E : K → Type 0} → (promise : (k : K) → A k → Line → E k → Type 0) → Type 0
+OneNewLine {K} {A} {E} promise = (k : K) (a : A k) (r s : Line) (d e : E k) → promise k a r d → promise k a s e → SameLine r s
+
 -- The same of a returned part of a lent slice: its content, and where it points.
 abbrev pub OnePart : {K : Type 0} {A E : K → Type 0} → (promise : (k : K) → A k → Bor (List ℕ) → E k → Type 0) → Type 0
 OnePart {K} {A} {E} promise =
     (k : K) (a : A k) (r s : Bor (List ℕ)) (d e : E k) → promise k a r d → promise k a s e → (r.now ≡ s.now) × (r.ref_ptr ≡ s.ref_ptr)
+
+-- The same of a generic function, at each type whose values are copied.
+abbrev pub OneResultOfEach : {K : Type 0} {A R E : RattleType → K → Type 0}
+    → (promise : (T : RattleType) → Laws T → IsCopy T → Ghosts T.Denot → Dict → (k : K) → A T k → R T k → E T k → Type 0) → Type 2
+OneResultOfEach promise =
+    (T : RattleType) (laws : Laws T) (copied : IsCopy T) (clone : Ghosts T.Denot) (dict : Dict) → OneResult (promise T laws copied clone dict)
+
+abbrev pub OneResultAndBufferOfEach : {K : Type 0} {A R E : RattleType → K → Type 0}
+    → (promise : (T : RattleType) → Laws T → IsCopy T → Ghosts T.Denot → Dict → (k : K) → A T k → R T k → E T k → Type 0)
+    → (lent : (T : RattleType) (k : K) → E T k → MutBor (List T.Denot)) → Type 2
+OneResultAndBufferOfEach {K} {A} {R} {E} promise lent =
+    (T : RattleType) (laws : Laws T) (copied : IsCopy T) (clone : Ghosts T.Denot) (dict : Dict) (k : K) (a : A T k) (r s : R T k) (d e : E T k)
+    → promise T laws copied clone dict k a r d → promise T laws copied clone dict k a s e → (r ≡ s) × ((lent T k d).now ≡ (lent T k e).now)
 
 pub record TightBase : Type 1 where
   pub byte_at : OneResult base.byte_at.Reads.Learnt
@@ -74,7 +104,7 @@ pub record TightWriter : Type 1 where
   pub write_rx : OneResultAndBuffer writer.write_rx.Reads.Learnt (λ k e. e.1.1.1.0)
   pub put_rx : OneResultAndBuffer writer.put_rx.Reads.Learnt (λ k e. e.1.1.1.0)
 
-pub record TightRecord : Type 1 where
+pub record TightRecord : Type 2 where
   pub kind_code : OneResult the_record.kind_code.Reads.Learnt
   pub kind_of : OneResult the_record.kind.kind_of.Reads.Learnt
   pub has_one_side : OneResult the_record.kind.has_one_side.Reads.Learnt
@@ -84,6 +114,8 @@ pub record TightRecord : Type 1 where
   pub opened : OneResult the_record.seat.Seat.opened.Reads.Learnt
   pub fresh : OneResult the_record.whole.Bench.fresh.Reads.Learnt
   pub no_such_seat : OneResult the_record.no_such_seat.Reads.Learnt
+  pub entry_of : OneResultOfEach the_record.entry_of.Reads.Learnt
+  pub set_entry : OneResultAndBufferOfEach the_record.set_entry.Reads.Learnt (λ T k e. e.0)
   pub flag_of : OneResult the_record.flag_of.Reads.Learnt
   pub seat_of : OneResult the_record.seat_of.Reads.Learnt
   pub lesson_seat : OneResult the_record.lesson_seat.Reads.Learnt
@@ -126,12 +158,14 @@ pub record TightSending : Type 1 where
   pub tick : OneResultAndBuffer sending.tick.Reads.Learnt (λ k e. e.1.1.1.0)
 
 pub record TightText : Type 1 where
-  pub put_byte : OneResultAndBuffer text.put_byte.Reads.Learnt (λ k e. e.0)
-  pub put : OneResultAndBuffer text.put.Reads.Learnt (λ k e. e.0)
-  pub put_bit : OneResultAndBuffer text.put_bit.Reads.Learnt (λ k e. e.0)
-  pub put_number : OneResultAndBuffer text.put_number.Reads.Learnt (λ k e. e.0)
-  pub put_hex : OneResultAndBuffer text.put_hex.Reads.Learnt (λ k e. e.0)
-  pub put_bytes : OneResultAndBuffer text.put_bytes.Reads.Learnt (λ k e. e.0)
+  pub new : OneNewLine text.out.Line.new.Reads.Learnt
+  pub put : OneLine text.out.Line.put.Reads.Learnt (λ k e. e.0)
+  pub put_byte : OneLine text.out.Line.put_byte.Reads.Learnt (λ k e. e.0)
+  pub put_bit : OneLine text.out.Line.put_bit.Reads.Learnt (λ k e. e.0)
+  pub put_number : OneLine text.out.Line.put_number.Reads.Learnt (λ k e. e.0)
+  pub put_hex : OneLine text.out.Line.put_hex.Reads.Learnt (λ k e. e.0)
+  pub put_bytes : OneLine text.out.Line.put_bytes.Reads.Learnt (λ k e. e.0)
+  pub text : OnePart text.out.Line.text.Reads.Learnt
 
 pub record TightWords : Type 1 where
   pub word : OnePart words.word.Reads.Learnt
@@ -148,19 +182,19 @@ pub record TightWords : Type 1 where
   pub bytes : OneResultAndBuffer words.bytes.Reads.Learnt (λ k e. e.1.0)
 
 pub record TightShow : Type 1 where
-  pub tx_line : OneResultAndBuffer show.tx_line.Reads.Learnt (λ k e. e.0)
-  pub rx_line : OneResultAndBuffer show.rx_line.Reads.Learnt (λ k e. e.0)
-  pub refused_line : OneResultAndBuffer show.refused_line.Reads.Learnt (λ k e. e.0)
-  pub refusal_line : OneResultAndBuffer show.refusal_line.Reads.Learnt (λ k e. e.0)
-  pub answer_line : OneResultAndBuffer show.answer_line.Reads.Learnt (λ k e. e.0)
-  pub decode : OneResultAndBuffer show.decode.Reads.Learnt (λ k e. e.0)
+  pub tx_line : OneLine show.tx_line.Reads.Learnt (λ k e. e.0)
+  pub rx_line : OneLine show.rx_line.Reads.Learnt (λ k e. e.0)
+  pub refused_line : OneLine show.refused_line.Reads.Learnt (λ k e. e.0)
+  pub refusal_line : OneLine show.refusal_line.Reads.Learnt (λ k e. e.0)
+  pub answer_line : OneLine show.answer_line.Reads.Learnt (λ k e. e.0)
+  pub decode : OneLine show.decode.Reads.Learnt (λ k e. e.0)
 
 pub record TightGrammar : Type 1 where
   pub named : OneResult grammar.named.Reads.Learnt
   pub parsed : OneResultAndBuffer grammar.parsed.Reads.Learnt (λ k e. e.1.0)
 
--- All 90.
-pub record Tight : Type 1 where
+-- All 92.
+pub record Tight : Type 2 where
   pub base : TightBase
   pub packet : TightPacket
   pub items : TightItems

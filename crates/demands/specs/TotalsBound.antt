@@ -1,11 +1,11 @@
 -- 02, request 14: "33, after 23, if heard plus missing would pass 4,000,000,000." The bound from both sides, in computed calls on records that stand
 -- near it, made by hand.
-use Rattle.std.specs.Prelude.{ℕ, ◌≡◌, true, false}
+use Rattle.std.specs.Prelude.{ℕ, ◌≡◌, true, false, None, Some}
 use Rattle.packet.specs.Packet.{normal}
 use Rattle.packet.specs.Refusals.{Answer, accepted, refused}
-use Rattle.writer.specs.Writing.{from_tx, encode}
-use Rattle.packet.specs.declared.message.ClimaxItem.TheVariants as climax
-use Rattle.packet.specs.declared.message.SideItem.TheVariants as item
+use Rattle.packet.specs.Messages.{from_tx}
+use Rattle.packet.specs.declared.message.Side.TheVariants.{Main}
+use Rattle.writer.specs.Writing.{encode}
 use Rattle.record.specs.Record.{fresh_bench, with_seat}
 use Rattle.seats.specs.Opening.{call_code}
 use Rattle.hearing.specs.Hearing.{heard_of}
@@ -38,7 +38,7 @@ abbrev pub asks_side : (sequence : ℕ) → Call
 asks_side sequence =
     packet 1 (
     encode 0x0167
-    (from_tx (record { sequence = sequence; timestamp = 0; ssrc = 1; ptt = normal; id = 1; pm = false; ptts = false; climax = climax.Absent; side = item.Main }))
+    (from_tx (record { sequence = sequence; timestamp = 0; ssrc = 1; ptt = normal; id = 1; pm = false; ptts = false; climax = None; side = Some Main }))
     voice)
 
 abbrev pub answer_on : Bench → Call → Answer Said

@@ -1,27 +1,25 @@
 -- 01, 27: "writer given a value its reader would refuse". So it is, both ways: 27 is a value that makes a packet which the reader refuses, or
 -- one that does not fit its bits, which no reader could see; and nothing else.
-use Rattle.std.specs.Prelude.{ℕ, ◌^◌, ◌≤◌, ◌≡◌, Bool, true, false, ◌&&◌, List, ◌⊎◌, ◌↔◌, ltb, length}
+use Rattle.std.specs.Prelude.{ℕ, ◌^◌, ◌≤◌, ◌≡◌, Bool, true, false, ◌&&◌, List, ◌⊎◌, ◌↔◌, ltb, length, Option, None, Some}
 use Rattle.packet.specs.Refusals.{Answer, refused, cause_of}
 use Rattle.reader.specs.Reading.{read_tx, read_rx}
-use Rattle.writer.specs.Writing.{from_tx, from_rx, encode, writable, write}
-use Rattle.packet.specs.declared.message.SqiItem.{SqiItem}
-use Rattle.packet.specs.declared.message.SqiItem.TheVariants as sqi
-use Rattle.packet.specs.declared.message.ClimaxItem.{ClimaxItem}
-use Rattle.packet.specs.declared.message.ClimaxItem.TheVariants as climax
+use Rattle.writer.specs.Writing.{encode, writable, write}
 use Rattle.packet.specs.declared.message.Message.{Message}
 use Rattle.packet.specs.declared.message.Tx.{Tx}
 use Rattle.packet.specs.declared.message.Rx.{Rx}
+use Rattle.packet.specs.Messages.{from_tx, from_rx}
+use Rattle.packet.specs.declared.message.Sqi.{Sqi}
 use Rattle.demands.specs.RoundTrip.{Narrow}
 
 -- "quality in the high 5 bits; method in the low 3"
-abbrev pub sqi_fits : SqiItem → Bool
-sqi_fits sqi.Absent = true
-sqi_fits (sqi.Is quality method) = ltb quality (2 ^ 5) && ltb method (2 ^ 3)
+abbrev pub sqi_fits : Option Sqi → Bool
+sqi_fits None = true
+sqi_fits (Some s) = ltb s.quality (2 ^ 5) && ltb s.method (2 ^ 3)
 
 -- "low 7 bits the delay"
-abbrev pub climax_fits : ClimaxItem → Bool
-climax_fits climax.Absent = true
-climax_fits (climax.Is delay) = ltb delay (2 ^ 7)
+abbrev pub climax_fits : Option ℕ → Bool
+climax_fits None = true
+climax_fits (Some delay) = ltb delay (2 ^ 7)
 
 -- "PTT type 3 bits .. ptt-id 6"
 unfoldable pub fits_bits : Message → Bool

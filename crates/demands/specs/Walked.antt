@@ -7,8 +7,7 @@ use Rattle.std.specs.Borrow.{Bor}
 use denote.Triple.Clauses.{AtExit}
 use denote.Triple.Entry.{Args}
 use borrow.Fn.World.{World}
-use Rattle.packet.specs.Refusals.{mapped}
-use Rattle.hearing.specs.Answers.{packet_answer}
+use Rattle.packet.specs.Refusals.{mapped, answer_of}
 use Rattle.relaying.specs.Relaying.{Relays}
 use Rattle.bench.specs.Step.{packet, told, keeping}
 use Rattle.record.specs.declared.whole.Bench.{Bench}
@@ -28,4 +27,4 @@ pub record Walked : Type 2 where
       → (r.bench ≡ s.bench) × (r.answer ≡ s.answer) × (r.audio.now ≡ s.audio.now) × (r.audio.ref_ptr ≡ s.audio.ref_ptr)
   -- and it does what `keeping` says of the packet
   pub relay_does : (b : Bench) (n : ℕ) (p : Bor (List ℕ)) (r : Relayed) → Relays b n p r
-      → did (mapped (told p.now) (packet_answer r.answer)) r.bench ≡ keeping b (packet n p.now)
+      → did (mapped (told p.now) (answer_of r.answer)) r.bench ≡ keeping b (packet n p.now)

@@ -1,13 +1,13 @@
 -- What an accepted packet passed, by name, as seats' Accepted has it of the other calls.
+use native.Mathlib.Omega.{arith}
 use Prim.Native.Nat.{ℕ, ◌≤◌}
 use mathlib.Core.Path.{◌≡◌}
 use mathlib.Core.Bool.{true, false}
 use mathlib.Core.List.{List}
-use borrow.Author.Tests.{not-false}
 use Rattle.base.specs.Order.{other_ssrc, late}
 use Rattle.packet.specs.Packet.{field}
 use Rattle.packet.specs.Refusals.{NoCase}
-use Rattle.reader.specs.Reading.{reader_refusals, message_of, items_here}
+use Rattle.reader.specs.Reading.{message_of, items_here}
 use Rattle.packet.specs.declared.message.Direction.TheVariants as direction
 use Rattle.packet.proofs.Judged.{none_of_both}
 use Rattle.reader.proofs.Passed.{Passed, passed, field_passed}
@@ -32,20 +32,7 @@ pub record PacketAccepted (setup : Setup) (n : ℕ) (s : Seat) (p : List ℕ) : 
 
 pub packet_accepted : (setup : Setup) (n : ℕ) (s : Seat) (p : List ℕ) → NoCase (packet_refusals setup n s p) → PacketAccepted setup n s p
 unfolding packet_refusals message_refusals seat_refusals
-packet_accepted setup n s p none =
-    let reader = reader_refusals direction.Tx setup.ext p in
-    let rest = none_of_both reader (message_refusals setup n s (message_in p)) none.1.1 in
-    record {
-      is_seat = none.0;
-      was_open = not-false _ none.1.0;
-      was_read = passed direction.Tx setup.ext p rest.0;
-      same_ssrc = rest.1.0;
-      not_late = rest.1.1.0;
-      may_key_lem = rest.1.1.1.0;
-      id_allowed_lem = not-false _ rest.1.1.1.1.0;
-      may_ask_side = rest.1.1.1.1.1.0;
-      total_fits = rest.1.1.1.1.1.1.0;
-    }
+packet_accepted setup n s p none = grind (arith, none_of_both, passed)
 
 -- "6 and 7 are reserved and refused"
 pub type_known : (ext : ℕ) (p : List ℕ) → Passed direction.Tx ext p → (message_in p).ptt ≤ 5

@@ -5,14 +5,15 @@ use mathlib.Core.Bool.{Bool, true, false, cond, not, ◌&&◌, ◌||◌, false�
 use native.Mathlib.Omega.{arith}
 use lib.Dec.{ltb, leb, eqb}
 use borrow.Author.Tests.{ltb-true, lt-ltb, leb-true, le-leb, eqb-true, eqb-false, ne_eqb, not-true}
+use Rattle.std.specs.Prelude.{Option, None, Some}
 use Rattle.base.specs.Order.{other_ssrc, late, missing}
 use Rattle.base.proofs.InWords.{so_many, no_other, late_exactly}
 use Rattle.base.proofs.Truths.{and_left, and_right, or_left, or_right, ◌and◌, or_true}
 use Rattle.packet.specs.Packet.{ptt_on}
 use Rattle.packet.proofs.InWords.{MetIf, Agree}
-use Rattle.packet.specs.declared.message.SideItem.{SideItem}
-use Rattle.packet.specs.declared.message.SideItem.TheVariants as item
 use Rattle.packet.specs.declared.message.Tx.{Tx}
+use Rattle.packet.specs.declared.message.Side.TheVariants.{Main, Standby}
+use Rattle.packet.specs.declared.message.Side.{Side}
 use Rattle.record.specs.Kind.{kind_of, item_barred}
 use Rattle.record.specs.Record.{lesson}
 use Rattle.record.specs.declared.kind.Kind.TheVariants.{Single, Pair, Shared}
@@ -122,18 +123,18 @@ module _ (setup : Setup) (n : ℕ) (s : Seat) (m : Tx) where
   unfolding side_barred kind_of
   by_side = record { if_holds = if_holds; only_if = only_if }
     where
-      some : (i : SideItem) → has_side i ≡ true → i ≡ item.Absent → ⊥
+      some : (i : Option Side) → has_side i ≡ true → i ≡ None → ⊥
       some i h e = false≢true (sym (ap has_side e) ∙ h)
 
-      has : (i : SideItem) → (i ≡ item.Absent → ⊥) → has_side i ≡ true
-      has item.Absent out = absurd (out refl)
-      has item.Main out = refl
-      has item.Standby out = refl
+      has : (i : Option Side) → (i ≡ None → ⊥) → has_side i ≡ true
+      has None out = absurd (out refl)
+      has (Some Main) out = refl
+      has (Some Standby) out = refl
 
-      is_standby_lem : (i : SideItem) → is_standby i ≡ true → i ≡ item.Standby
-      is_standby_lem item.Absent e = absurd (false≢true e)
-      is_standby_lem item.Main e = absurd (false≢true e)
-      is_standby_lem item.Standby e = refl
+      is_standby_lem : (i : Option Side) → is_standby i ≡ true → i ≡ Some Standby
+      is_standby_lem None e = absurd (false≢true e)
+      is_standby_lem (Some Main) e = absurd (false≢true e)
+      is_standby_lem (Some Standby) e = refl
 
       by_kind : (one two : Bool) → eqb setup.kind 1 ≡ one → eqb setup.kind 2 ≡ two → item_barred (cond one Pair (cond two Shared Single)) m.side ≡ true → Barred 23 0
       by_kind true two p q h = absurd (false≢true h)
@@ -148,7 +149,7 @@ module _ (setup : Setup) (n : ℕ) (s : Seat) (m : Tx) where
           by_or false q h = item_from_lesson (and_left (lesson setup n) (has_side m.side) h) (some m.side (and_right (lesson setup n) (has_side m.side) h))
 
       only_if : (c : ℕ) → Barred 23 c → (side_barred (lesson setup n) (kind_of setup.kind) m ≡ true) × (c ≡ 0)
-      only_if c (item_on_single one two out) = (simp (ne_eqb setup.kind 1 one, ne_eqb setup.kind 2 two, has m.side out), refl)
+      only_if c (item_on_single one two out) = (simp (ne_eqb setup.kind 1 one, ne_eqb setup.kind 2 two, single_bars m.side, has m.side out), refl)
       only_if c (one_on_shared e q) = (simp (e, q), refl)
       only_if c (item_from_lesson l out) = (simp (l, has m.side out, or_true), refl)
 
@@ -169,13 +170,4 @@ module _ (setup : Setup) (n : ℕ) (s : Seat) (m : Tx) where
 
   -- a message is barred with 19 and more
   pub message_range : {k c : ℕ} → MessageBarred setup n s m k c → 19 ≤ k
-  message_range (another_ssrc a o) = omega arith
-  message_range (not_after none) = omega arith
-  message_range (listens_only a c d e) = omega arith
-  message_range (not_coupling e f) = omega arith
-  message_range (lesson_tests l a c) = omega arith
-  message_range (other_id o u) = omega arith
-  message_range (item_on_single a c d) = omega arith
-  message_range (one_on_shared e q) = omega arith
-  message_range (item_from_lesson l o) = omega arith
-  message_range (too_many k b h) = omega arith
+  message_range h = grind arith

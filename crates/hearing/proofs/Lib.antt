@@ -2,6 +2,5 @@ pub mod AccountLaws
 pub mod Accepted
 pub mod Sides
 pub mod PacketSteps
-pub mod TellApart
 pub mod InWords
 pub mod HeededInWords

@@ -1,10 +1,11 @@
 -- The main/standby item: which one a kind of radio bars, who may send none, and which packets leave the side.
-use mathlib.Core.Path.{◌≡◌, refl, ap, sym, ◌∙◌}
+use native.Mathlib.Omega.{arith}
+use mathlib.Core.Path.{◌≡◌, ap, sym, ◌∙◌}
 use mathlib.Core.Bool.{Bool, true, false, ◌&&◌}
+use Rattle.std.specs.Prelude.{Option}
 use Rattle.base.proofs.Truths.{and_none, and_rest, or_left, or_right}
-use Rattle.packet.specs.declared.message.SideItem.{SideItem}
-use Rattle.packet.specs.declared.message.SideItem.TheVariants as side
 use Rattle.packet.specs.declared.message.Tx.{Tx}
+use Rattle.packet.specs.declared.message.Side.{Side}
 use Rattle.record.specs.Kind.{item_barred, items_move_side}
 use Rattle.record.specs.declared.kind.Kind.{Kind}
 use Rattle.record.specs.declared.kind.Kind.TheVariants.{Single, Shared}
@@ -12,15 +13,11 @@ use Rattle.record.specs.declared.seat.Field.{Field}
 use Rattle.hearing.specs.Hearing.{has_side, is_standby, side_barred, takes_effect, side_after}
 
 -- any on a single radio, 1 on a shared one
-pub single_bars : (item : SideItem) → item_barred Single item ≡ has_side item
-single_bars side.Absent = refl
-single_bars side.Main = refl
-single_bars side.Standby = refl
+pub single_bars : (item : Option Side) → item_barred Single item ≡ has_side item
+single_bars item = grind arith
 
-pub shared_bars : (item : SideItem) → item_barred Shared item ≡ is_standby item
-shared_bars side.Absent = refl
-shared_bars side.Main = refl
-shared_bars side.Standby = refl
+pub shared_bars : (item : Option Side) → item_barred Shared item ≡ is_standby item
+shared_bars item = grind arith
 
 -- 23 not met
 module _ (is_lesson : Bool) (kind : Kind) (m : Tx) (passed : side_barred is_lesson kind m ≡ false) where

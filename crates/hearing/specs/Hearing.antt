@@ -1,16 +1,15 @@
 -- 01: "Packet for a seat." What it refuses, what it answers, and what the bench is after it.
-use Rattle.std.specs.Prelude.{ℕ, ◌*◌, min, Bool, true, false, cond, not, ◌&&◌, ◌||◌, List, [], ◌∷◌, ◌++◌, eqb, length}
+use Rattle.std.specs.Prelude.{ℕ, ◌*◌, min, Bool, true, false, cond, not, ◌&&◌, ◌||◌, List, [], ◌∷◌, ◌++◌, eqb, length, Option, None, Some}
 use Rattle.std.specs.Bool.{beq}
 use Rattle.base.specs.Order.{other_ssrc, late}
 use Rattle.packet.specs.Packet.{payload, payload_at, coupling, test, ptt_on}
 use Rattle.packet.specs.Refusals.{Case, ◌if◌, Answer, accepted, refused, judged}
-use Rattle.reader.specs.Reading.{reader_refusals, message_of, as_tx}
+use Rattle.reader.specs.Reading.{reader_refusals, message_of}
 use Rattle.packet.specs.declared.message.Direction.TheVariants as direction
-use Rattle.packet.specs.declared.message.ClimaxItem.{ClimaxItem}
-use Rattle.packet.specs.declared.message.ClimaxItem.TheVariants as climax
-use Rattle.packet.specs.declared.message.SideItem.{SideItem}
-use Rattle.packet.specs.declared.message.SideItem.TheVariants as side
 use Rattle.packet.specs.declared.message.Tx.{Tx}
+use Rattle.packet.specs.Messages.{as_tx}
+use Rattle.packet.specs.declared.message.Side.TheVariants.{Main, Standby}
+use Rattle.packet.specs.declared.message.Side.{Side}
 use Rattle.record.specs.Kind.{kind_of, item_barred, items_move_side}
 use Rattle.record.specs.Record.{entry_of, seat_of, lesson, with_seat, with_order, with_side}
 use Rattle.seats.specs.Opening.{is_tx_rx, may_key, own_id, seat_refusals}
@@ -26,23 +25,22 @@ use Rattle.hearing.specs.Account.{missing_before, totals_after, total_too_large}
 use Rattle.hearing.specs.declared.hearing.Hearing.{Hearing}
 
 -- What a seat keeps of a message: its field with its items.
-abbrev pub has_delay : ClimaxItem → Bool
-has_delay climax.Absent = false
-has_delay (climax.Is v) = true
+abbrev pub has_delay : Option ℕ → Bool
+has_delay None = false
+has_delay (Some v) = true
 
-abbrev pub delay_of : ClimaxItem → ℕ
-delay_of climax.Absent = 0
-delay_of (climax.Is v) = v
+abbrev pub delay_of : Option ℕ → ℕ
+delay_of None = 0
+delay_of (Some v) = v
 
-abbrev pub has_side : SideItem → Bool
-has_side side.Absent = false
-has_side side.Main = true
-has_side side.Standby = true
+abbrev pub has_side : Option Side → Bool
+has_side None = false
+has_side (Some i) = true
 
-abbrev pub is_standby : SideItem → Bool
-is_standby side.Absent = false
-is_standby side.Main = false
-is_standby side.Standby = true
+abbrev pub is_standby : Option Side → Bool
+is_standby None = false
+is_standby (Some Main) = false
+is_standby (Some Standby) = true
 
 unfoldable pub field_heard : Tx → Field
 field_heard m =

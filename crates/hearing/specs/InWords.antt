@@ -1,11 +1,10 @@
 -- Second witness of `hearing`: 01's "Packet for a seat" once more in words and numbers: what a packet's message is turned away for (19 to
 -- 23, and 02's 33), what it answers and what it leaves. proofs/InWords holds the definitions of Hearing and Account to it; none of them is
 -- cited. The codes: call types 0 Idle, 1 Rxonly, 2 TxRx, 3 Coupling; kinds 1 a pair, 2 a shared radio, every other a single one.
-use Rattle.std.specs.Prelude.{ℕ, ◌+◌, ◌*◌, ◌≤◌, ◌<◌, ◌≡◌, true, false, ◌↔◌, ◌⊎◌}
+use Rattle.std.specs.Prelude.{ℕ, ◌+◌, ◌*◌, ◌≤◌, ◌<◌, ◌≡◌, true, false, ◌↔◌, ◌⊎◌, None, Some}
 use Rattle.base.specs.InWords.{Missing}
-use Rattle.packet.specs.declared.message.ClimaxItem.TheVariants as climax
-use Rattle.packet.specs.declared.message.SideItem.TheVariants as item
 use Rattle.packet.specs.declared.message.Tx.{Tx}
+use Rattle.packet.specs.declared.message.Side.TheVariants.{Main, Standby}
 use Rattle.record.specs.Record.{seat_of, lesson}
 use Rattle.record.specs.declared.setup.Setup.{Setup}
 use Rattle.record.specs.declared.seat.Field.{Field}
@@ -33,9 +32,9 @@ pub data MessageBarred (setup : Setup) (n : ℕ) (s : Seat) (m : Tx) : (number c
   other_id : (OwnId n s.call m.id → ⊥) → (m.ptt ≡ 0 → m.id ≡ 0 → ⊥) → MessageBarred setup n s m 22 0
   -- "23 | main/standby item .. on a single radio; main/standby item from a lesson seat"; 02, of a shared one: "23 also for an item of 1
   -- here"
-  item_on_single : (setup.kind ≡ 1 → ⊥) → (setup.kind ≡ 2 → ⊥) → (m.side ≡ item.Absent → ⊥) → MessageBarred setup n s m 23 0
-  one_on_shared : setup.kind ≡ 2 → m.side ≡ item.Standby → MessageBarred setup n s m 23 0
-  item_from_lesson : lesson setup n ≡ true → (m.side ≡ item.Absent → ⊥) → MessageBarred setup n s m 23 0
+  item_on_single : (setup.kind ≡ 1 → ⊥) → (setup.kind ≡ 2 → ⊥) → (m.side ≡ None → ⊥) → MessageBarred setup n s m 23 0
+  one_on_shared : setup.kind ≡ 2 → m.side ≡ Some Standby → MessageBarred setup n s m 23 0
+  item_from_lesson : lesson setup n ≡ true → (m.side ≡ None → ⊥) → MessageBarred setup n s m 23 0
   -- 02: "33, after 23, if heard plus missing would pass 4,000,000,000"
   too_many : (missing : ℕ) → Before s m missing → 4000000000 < s.totals.heard + 1 + (s.totals.missing + missing) → MessageBarred setup n s m 33 0
 
@@ -45,11 +44,11 @@ pub record Says (m : Tx) (f : Field) : Type 0 where
   pub id : f.id ≡ m.id
   pub pm : f.pm ≡ m.pm
   pub ptts : f.ptts ≡ m.ptts
-  pub no_delay : m.climax ≡ climax.Absent → (f.delayed ≡ false) × (f.delay ≡ 0)
-  pub a_delay : (v : ℕ) → m.climax ≡ climax.Is v → (f.delayed ≡ true) × (f.delay ≡ v)
-  pub no_side : m.side ≡ item.Absent → (f.sided ≡ false) × (f.standby ≡ false)
-  pub main : m.side ≡ item.Main → (f.sided ≡ true) × (f.standby ≡ false)
-  pub standby : m.side ≡ item.Standby → (f.sided ≡ true) × (f.standby ≡ true)
+  pub no_delay : m.climax ≡ None → (f.delayed ≡ false) × (f.delay ≡ 0)
+  pub a_delay : (v : ℕ) → m.climax ≡ Some v → (f.delayed ≡ true) × (f.delay ≡ v)
+  pub no_side : m.side ≡ None → (f.sided ≡ false) × (f.standby ≡ false)
+  pub main : m.side ≡ Some Main → (f.sided ≡ true) × (f.standby ≡ false)
+  pub standby : m.side ≡ Some Standby → (f.sided ≡ true) × (f.standby ≡ true)
 
 -- What an accepted message m answers (h) and leaves (next).
 pub record Heeded (b : Bench) (n : ℕ) (m : Tx) (h : Hearing) (next : Bench) : Type 0 where
@@ -66,10 +65,10 @@ pub record Heeded (b : Bench) (n : ℕ) (m : Tx) (h : Hearing) (next : Bench) : 
   -- "the side in use after it". "A main/standby item takes effect, setting the side in use, only where that seat's previous accepted packet
   -- carried the other value or no such item. Repeats do nothing." On a pair:
   pub side : h.standby ≡ next.standby
-  pub to_main : b.setup.kind ≡ 1 → m.side ≡ item.Main → ((last_field b n).sided ≡ false) ⊎ ((last_field b n).standby ≡ true) → next.standby ≡ false
-  pub to_standby : b.setup.kind ≡ 1 → m.side ≡ item.Standby → ((last_field b n).sided ≡ false) ⊎ ((last_field b n).standby ≡ false) → next.standby ≡ true
-  pub main_again : m.side ≡ item.Main → (last_field b n).sided ≡ true → (last_field b n).standby ≡ false → next.standby ≡ b.standby
-  pub standby_again : m.side ≡ item.Standby → (last_field b n).sided ≡ true → (last_field b n).standby ≡ true → next.standby ≡ b.standby
-  pub without : m.side ≡ item.Absent → next.standby ≡ b.standby
+  pub to_main : b.setup.kind ≡ 1 → m.side ≡ Some Main → ((last_field b n).sided ≡ false) ⊎ ((last_field b n).standby ≡ true) → next.standby ≡ false
+  pub to_standby : b.setup.kind ≡ 1 → m.side ≡ Some Standby → ((last_field b n).sided ≡ false) ⊎ ((last_field b n).standby ≡ false) → next.standby ≡ true
+  pub main_again : m.side ≡ Some Main → (last_field b n).sided ≡ true → (last_field b n).standby ≡ false → next.standby ≡ b.standby
+  pub standby_again : m.side ≡ Some Standby → (last_field b n).sided ≡ true → (last_field b n).standby ≡ true → next.standby ≡ b.standby
+  pub without : m.side ≡ None → next.standby ≡ b.standby
   -- 02, of a shared radio: "An item of 0 is accepted and moves nothing"; on a single one none is accepted
   pub elsewhere : (b.setup.kind ≡ 1 → ⊥) → next.standby ≡ b.standby

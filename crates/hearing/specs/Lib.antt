@@ -3,5 +3,4 @@
 pub mod Account
 pub mod Hearing
 pub mod Pieces
-pub mod Answers
 pub mod InWords

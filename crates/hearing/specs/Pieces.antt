@@ -11,9 +11,6 @@ use Rattle.record.specs.declared.seat.Seat.{Seat}
 unfoldable pub message_verdict : Setup → (n : ℕ) → Seat → Tx → Answer (Unit {0})
 message_verdict setup n s m = judged (message_refusals setup n s m) tt
 
-unfoldable pub let_in : Setup → (n : ℕ) → Seat → Tx → Answer Tx
-let_in setup n s m = judged (message_refusals setup n s m) m
-
 -- the message of a packet, where none of the packet's refusals holds
 unfoldable pub admitted : Setup → (n : ℕ) → Seat → List ℕ → Answer Tx
 admitted setup n s p = judged (packet_refusals setup n s p) (message_in p)

@@ -8,5 +8,5 @@ mod admission;
 pub mod hearing;
 mod memory;
 
-pub use account::{TotalsAnswer, totals};
-pub use hearing::{Hearing, PacketAnswer, Packeted, audio, packet};
+pub use account::totals;
+pub use hearing::{Hearing, audio, packet};

@@ -1,64 +1,63 @@
 // What an accepted message leaves: what its seat keeps of it, the side in use, and the bench after it.
 ghost use Rattle.std.specs.Prelude.{◌≡◌, false};
 ghost use Rattle.record.specs.Kind.{kind_of};
-ghost use Rattle.record.specs.Record.{no_such_seat, seat_of};
+ghost use Rattle.record.specs.Record.{seat_of};
 ghost use Rattle.hearing.specs.Account.{missing_before, totals_after, total_too_large};
-ghost use Rattle.hearing.specs.Hearing.{has_delay, delay_of, has_side, is_standby, field_heard, heard_seat, same_field, takes_effect, side_after, heard_bench};
+ghost use Rattle.hearing.specs.Hearing.{field_heard, heard_seat, takes_effect, side_after, heard_bench};
 
 use air::order::order_after;
 use base::missing;
-use packet::{ClimaxItem, SideItem, Tx};
+use packet::{Side, Tx};
 use record::kind::{items_move_side, kind_of};
-use record::{Bench, Field, Heard, Seat, Totals};
+use record::{Bench, Field, Heard, Seat, Totals, set_entry};
 
 // The bench after an accepted message, s being the seat before it.
+#[tactic(auto, unfolding(crate::specs::Hearing::heard_bench))]
 pub(crate) fn heard_bench(b: Bench, n: u8, s: Seat, m: Tx) -> Bench
-    requires { (no_such_seat n ≡ false) × (s ≡ seat_of b.seats n) × (total_too_large (totals_after s m) ≡ false) }
+    requires { (s ≡ seat_of b.seats n) × (total_too_large (totals_after s m) ≡ false) }
     ensures { result ≡ heard_bench b n m }
 {
-    let setup = b.setup;
-    let order = b.order;
-    let heard = s.heard;
-    let old = heard.field;
+    let old = s.heard.field;
     let new = field_heard(m);
-    let i = (n - 1) as usize;
-    let moved = order_after(n, old, new, order);
-    let mut after = b;
-    after.seats[i] = heard_seat(s, m);
-    after.order = moved;
-    after.standby = side_after(setup.kind, old, new, b.standby);
-    after
+    let mut seats = b.seats;
+    set_entry(&mut seats, n, heard_seat(s, m));
+    Bench {
+        seats,
+        order: order_after(n, old, new, b.order),
+        standby: side_after(b.setup.kind, old, new, b.standby),
+        ..b
+    }
 }
 
 // The seat after an accepted message: its time left begins anew.
+#[tactic(auto, unfolding(crate::specs::Hearing::heard_seat))]
 fn heard_seat(s: Seat, m: Tx) -> Seat
     requires { total_too_large (totals_after s m) ≡ false }
     ensures { result ≡ heard_seat s m }
 {
-    let mut after = s;
-    after.left = (s.period as u32) * (s.multiplier as u32);
-    let heard = Heard {
-        any: true,
-        ssrc: m.ssrc,
-        sequence: m.sequence,
-        field: field_heard(m),
-    };
-    after.heard = heard;
-    after.totals = totals_after(s, m);
-    after
+    Seat {
+        left: u32::from(s.period) * u32::from(s.multiplier),
+        heard: Heard {
+            any: true,
+            ssrc: m.ssrc,
+            sequence: m.sequence,
+            field: field_heard(m),
+        },
+        totals: totals_after(s, m),
+        ..s
+    }
 }
 
 // The totals of a seat after a message that 33 does not refuse, so that no sum wraps.
+#[tactic(auto, using(crate::proofs::AccountLaws::heard_fits, crate::proofs::AccountLaws::missing_fits), unfolding(crate::specs::Account::totals_after))]
 fn totals_after(s: Seat, m: Tx) -> Totals
     requires { total_too_large (totals_after s m) ≡ false }
     ensures { result ≡ totals_after s m }
 {
-    let totals = s.totals;
-    let last = s.heard;
-    let heard = totals.heard + 1;
-    let before = totals.missing;
-    let missing = before + missing_before(last, m) as u32;
-    Totals { heard, missing }
+    Totals {
+        heard: s.totals.heard + 1,
+        missing: s.totals.missing + u32::from(missing_before(s.heard, m)),
+    }
 }
 
 // The packets missing between what the seat last accepted and the message.
@@ -69,67 +68,28 @@ pub(crate) fn missing_before(last: Heard, m: Tx) -> u16
 }
 
 // What the seat keeps of a message.
+#[tactic(auto, unfolding(crate::specs::Hearing::field_heard))]
 pub(crate) fn field_heard(m: Tx) -> Field
     ensures { result ≡ field_heard m }
 {
-    let climax = m.climax;
-    let side = m.side;
     Field {
         ptt: m.ptt,
         id: m.id,
         pm: m.pm,
         ptts: m.ptts,
-        delayed: has_delay(climax),
-        delay: delay_of(climax),
-        sided: has_side(side),
-        standby: is_standby(side),
-    }
-}
-
-fn has_delay(i: ClimaxItem) -> bool
-    ensures { result ≡ has_delay i }
-{
-    match i {
-        ClimaxItem::Absent => false,
-        ClimaxItem::Is(_) => true,
-    }
-}
-
-fn delay_of(i: ClimaxItem) -> u8
-    ensures { result ≡ delay_of i }
-{
-    match i {
-        ClimaxItem::Absent => 0,
-        ClimaxItem::Is(v) => v,
-    }
-}
-
-pub(crate) fn has_side(i: SideItem) -> bool
-    ensures { result ≡ has_side i }
-{
-    match i {
-        SideItem::Absent => false,
-        SideItem::Main => true,
-        SideItem::Standby => true,
-    }
-}
-
-fn is_standby(i: SideItem) -> bool
-    ensures { result ≡ is_standby i }
-{
-    match i {
-        SideItem::Absent => false,
-        SideItem::Main => false,
-        SideItem::Standby => true,
+        delayed: m.climax.is_some(),
+        delay: m.climax.unwrap_or(0),
+        sided: m.side.is_some(),
+        standby: m.side == Some(Side::Standby),
     }
 }
 
 // The side in use after a packet.
+#[tactic(auto, unfolding(crate::specs::Hearing::side_after))]
 fn side_after(code: u8, old: Field, new: Field, standby: bool) -> bool
     ensures { result ≡ side_after (kind_of code) old new standby }
 {
-    let kind = kind_of(code);
-    if items_move_side(kind) & takes_effect(old, new) {
+    if items_move_side(kind_of(code)) && takes_effect(old, new) {
         new.standby
     } else {
         standby
@@ -137,21 +97,10 @@ fn side_after(code: u8, old: Field, new: Field, standby: bool) -> bool
 }
 
 // A repeat of the seat's own item does nothing, whatever moved the side in between.
+#[tactic(auto, unfolding(crate::specs::Hearing::takes_effect))]
 fn takes_effect(old: Field, new: Field) -> bool
     ensures { result ≡ takes_effect old new }
 {
-    let repeats = old.sided & (old.standby == new.standby);
-    new.sided & !repeats
-}
-
-// The same meaning, value by value.
-pub(crate) fn same_field(old: Field, new: Field) -> bool
-    ensures { result ≡ same_field old new }
-{
-    let keying = (old.ptt == new.ptt)
-        & (old.id == new.id)
-        & (old.pm == new.pm)
-        & (old.ptts == new.ptts);
-    let delay = keying & (old.delayed == new.delayed) & (old.delay == new.delay);
-    delay & (old.sided == new.sided) & (old.standby == new.standby)
+    let repeats = old.sided && old.standby == new.standby;
+    new.sided && !repeats
 }

@@ -1,28 +1,24 @@
 -- One of eight, by the number of its seat: where it stands, after another was put in a place, and after all were changed alike.
+use Rattle.std.proofs.lemmas.Grind.{common_steps}
+use Rattle.std.proofs.lemmas.Bool.Decides.{nat_tests}
 use Prim.Native.Nat.{ℕ, zero, suc, ◌-◌, ◌≤◌, ◌<◌}
-use mathlib.Core.Path.{◌≡◌, refl, ap, sym, ◌∙◌}
+use mathlib.Core.Path.{◌≡◌, refl, sym}
 use mathlib.Core.Bool.{Bool, true, false, cond, true≢false}
 use mathlib.Core.List.{List, map}
 use native.Mathlib.Omega.{arith}
-use lib.Dec.{ltb, eqb}
-use lib.ListN.{length, get_or, set, replicate, length-set}
-use lib.Seq.{get_or-set_same, get_or-set_other}
-use borrow.Author.Tests.{ltb-false, le-ltb, eqb-true, eqb-false, ne_eqb}
+use lib.Dec.{eqb}
+use lib.ListN.{length, get_or, set, replicate}
 use Rattle.base.proofs.Places.{all_alike, map_place}
-use Rattle.base.proofs.Truths.{or_left, or_right}
 use Rattle.record.specs.Record.{seat_numbers, no_such_seat, closed_seat, entry_of, with_entry, seat_of, lesson}
 use Rattle.record.specs.declared.setup.Setup.{Setup}
 use Rattle.record.specs.declared.seat.Seat.{Seat}
 
 -- 13 not met: "seat .. 1 to 8"
 pub seat_in_range : (n : ℕ) → no_such_seat n ≡ false → (1 ≤ n) × (n ≤ 8)
-seat_in_range n e =
-    let first : eqb n 0 ≡ false = or_left (eqb n 0) (ltb 8 n) e in
-    let last : n ≤ 8 = ltb-false 8 n (or_right (eqb n 0) (ltb 8 n) e) in
-    (omega (arith, eqb-false n 0 first), last)
+seat_in_range n e = (grind (arith, nat_tests), grind (arith, nat_tests))
 
 pub in_range_seat : (n : ℕ) → 1 ≤ n → n ≤ 8 → no_such_seat n ≡ false
-in_range_seat n low high = simp (ne_eqb n 0 (λ (none : n ≡ 0). omega arith), le-ltb 8 n high)
+in_range_seat n low high = grind (arith, nat_tests)
 
 -- and counted from 0
 pub real_at : (i : ℕ) → i < 8 → no_such_seat (suc i) ≡ false
@@ -65,41 +61,16 @@ module _ {A : Type 0} (entries : List A) (n : ℕ) where
       by_case false = new
 
   pub as_many_entries : (entry : A) → length (with_entry entries n entry) ≡ length entries
-  as_many_entries entry = put_cases (λ l. length l ≡ length entries) entry refl (length-set entries (n - 1) entry)
+  as_many_entries entry = grind (arith, common_steps)
 
 -- what is put for one seat is found there, and nothing else for another
 pub entry_put : {A : Type 0} (none : A) (entries : List A) (m n : ℕ) (entry : A) → length entries ≡ 8 → no_such_seat m ≡ false
     → entry_of none (with_entry entries m entry) n ≡ cond (eqb n m) entry (entry_of none entries n)
-entry_put {A} none entries m n entry eight there = rw (put_there entries m entry there) (by_cases (eqb n m) (no_such_seat n) refl refl)
-  where
-    after : List A
-    after = set entries (m - 1) entry
-
-    by_cases : (same past : Bool) → eqb n m ≡ same → no_such_seat n ≡ past → entry_of none after n ≡ cond same entry (entry_of none entries n)
-    by_cases true past e h =
-        let is : n ≡ m = eqb-true n m e in
-        let r = seat_in_range m there in
-        ap (entry_of none after) is ∙ entry_there after m none there ∙ get_or-set_same entries (m - 1) entry none (omega arith)
-    by_cases false true e h = entry_none after n none h ∙ sym (entry_none entries n none h)
-    by_cases false false e h =
-        let r = seat_in_range m there in
-        let q = seat_in_range n h in
-        entry_there after n none h
-        ∙ get_or-set_other entries (m - 1) (n - 1) entry none (λ p. eqb-false n m e (omega arith))
-        ∙ sym (entry_there entries n none h)
+entry_put {A} none entries m n entry eight there = grind (arith, nat_tests, common_steps, seat_in_range m there)
 
 pub entry_elsewhere : {A : Type 0} (none : A) (entries : List A) (m n : ℕ) (entry : A) → (n ≡ m → ⊥)
     → entry_of none (with_entry entries m entry) n ≡ entry_of none entries n
-entry_elsewhere none entries m n entry other = by_cases (no_such_seat m) (no_such_seat n) refl refl
-  where
-    by_cases : (from to : Bool) → no_such_seat m ≡ from → no_such_seat n ≡ to
-        → cond to none (get_or (cond from entries (set entries (m - 1) entry)) (n - 1) none) ≡ cond to none (get_or entries (n - 1) none)
-    by_cases from true p q = refl
-    by_cases true false p q = refl
-    by_cases false false p q =
-        let r = seat_in_range m p in
-        let s = seat_in_range n q in
-        get_or-set_other entries (m - 1) (n - 1) entry none (λ e. other (omega arith))
+entry_elsewhere none entries m n entry other = grind (arith, nat_tests, common_steps, seat_in_range m, seat_in_range n, other)
 
 -- of an array whose entries were all changed alike, where `none` is changed alike too
 pub entry_changed : {A B : Type 0} (change : A → B) (none : A) {changed : B} → change none ≡ changed → (entries : List A) (n : ℕ)
@@ -112,11 +83,7 @@ entry_changed change none {changed} e entries n = by_case (no_such_seat n)
 
 -- a flag that is set is a seat's
 pub flag_is_seat : (flags : List Bool) (n : ℕ) → entry_of false flags n ≡ true → no_such_seat n ≡ false
-flag_is_seat flags n = by_number (no_such_seat n)
-  where
-    by_number : (none : Bool) → cond none false (get_or flags (n - 1) false) ≡ true → none ≡ false
-    by_number true set = absurd (true≢false (sym set))
-    by_number false set = refl
+flag_is_seat flags n = λ h. grind (arith, nat_tests)
 
 -- what is made of each seat's number, for one of them; and of two such lists
 pub at_seat : {A : Type 0} (f : ℕ → A) (d : A) (n : ℕ) → no_such_seat n ≡ false → entry_of d (map f seat_numbers) n ≡ f n
@@ -133,9 +100,8 @@ seat_of_place ss n e = rw e
 
 -- by its place, counted from 0
 pub seat_at : (ss : List Seat) (i : ℕ) → i < 8 → seat_of ss (suc i) ≡ get_or ss i closed_seat
-seat_at ss i h =
-    let here : suc i - 1 ≡ i = omega arith in
-    seat_of_place ss (suc i) (real_at i h) ∙ ap (λ (k : ℕ). get_or ss k closed_seat) here
+unfolding seat_of
+seat_at ss i h = grind (arith, nat_tests)
 
 pub seat_of_none : (ss : List Seat) (n : ℕ) → no_such_seat n ≡ true → seat_of ss n ≡ closed_seat
 unfolding seat_of
@@ -143,11 +109,7 @@ seat_of_none ss n e = rw e
 
 -- so one that is open is a seat
 pub open_is_seat : (ss : List Seat) (n : ℕ) → (seat_of ss n).opened ≡ true → no_such_seat n ≡ false
-open_is_seat ss n = by_number (no_such_seat n) refl
-  where
-    by_number : (none : Bool) → no_such_seat n ≡ none → (seat_of ss n).opened ≡ true → none ≡ false
-    by_number true e up = absurd (true≢false (sym up ∙ ap (λ (s : Seat). s.opened) (seat_of_none ss n e)))
-    by_number false e up = refl
+open_is_seat ss n = λ h. grind (arith, seat_of_none)
 
 -- a seat's flag in the set-up
 pub lesson_flag : (setup : Setup) (n : ℕ) → no_such_seat n ≡ false → get_or setup.lesson (n - 1) false ≡ lesson setup n
@@ -156,7 +118,7 @@ lesson_flag setup n real = rw real
 
 -- one set-up has one answer
 pub same_lessons : {setup other : Setup} → other ≡ setup → (n : ℕ) {t : Bool} → lesson setup n ≡ t → lesson other n ≡ t
-same_lessons e n known = ap (λ (s : Setup). lesson s n) e ∙ known
+same_lessons e n known = grind (arith, known)
 
 pub seat_put : (ss : List Seat) (m n : ℕ) (s : Seat) → length ss ≡ 8 → no_such_seat m ≡ false
     → seat_of (with_entry ss m s) n ≡ cond (eqb n m) s (seat_of ss n)
@@ -169,8 +131,5 @@ unfolding seat_of
 seat_changed change e ss n = entry_changed change closed_seat e ss n
 
 pub seat_of_eight_closed : (n : ℕ) → seat_of (replicate 8 closed_seat) n ≡ closed_seat
-seat_of_eight_closed n = by_case (no_such_seat n) refl
-  where
-    by_case : (none : Bool) → no_such_seat n ≡ none → seat_of (replicate 8 closed_seat) n ≡ closed_seat
-    by_case true e = seat_of_none (replicate 8 closed_seat) n e
-    by_case false e = seat_of_place (replicate 8 closed_seat) n e ∙ all_alike closed_seat 8 (n - 1)
+unfolding seat_of
+seat_of_eight_closed n = grind (arith, nat_tests, all_alike)

@@ -9,10 +9,10 @@ use denote.Triple.Clauses.{AtExit}
 use denote.Triple.Entry.{Args}
 use borrow.Fn.World.{World}
 use Rattle.record.specs.declared.whole.Bench.{Bench}
-use Rattle.hearing.proofs.TellApart.{packet_tells}
 use Rattle.relaying.specs.Relaying.{Relays}
 use Rattle.relaying.specs.declared.Relayed.{Relayed}
 use Rattle.relaying.specs.contracts.relay as relay
+use Rattle.packet.proofs.TellApart.{answer_tells}
 
 -- In every model of the logic the `ensures` of the code says `Relays` of what is passed, and nothing else.
 pub relay_promises : (k : Lfts 1) (a : Args relay.signature k) (r : Relayed) (e : AtExit relay.ended k) (w : World)
@@ -23,7 +23,7 @@ pub relayed_once : (b : Bench) (n : ℕ) (p : Bor (List ℕ)) (r s : Relayed) �
     → (r.bench ≡ s.bench) × (r.answer ≡ s.answer) × (r.audio.now ≡ s.audio.now) × (r.audio.ref_ptr ≡ s.audio.ref_ptr)
 relayed_once b n p r s one other = (
   one.leaves ∙ sym other.leaves,
-  packet_tells r.answer s.answer (one.answers ∙ sym other.answers),
+  answer_tells r.answer s.answer (one.answers ∙ sym other.answers),
   one.holds ∙ sym other.holds,
   ap₂ (λ block at. (block, at)) (one.lies.0 ∙ sym other.lies.0) (one.lies.1 ∙ sym other.lies.1),
 )

@@ -4,14 +4,15 @@
 
 ghost use Rattle.relaying.specs.Relaying.{Relays};
 
-use hearing::{PacketAnswer, audio, packet};
-use record::Bench;
+use hearing::{Hearing, audio, packet};
+use packet::Refusal;
+use record::{Answered, Bench};
 
 // What a packet for a seat leaves: the bench after it, its answer, and the audio to send.
 #[derive(Clone, Copy)]
 pub struct Relayed<'a> {
     pub bench: Bench,
-    pub answer: PacketAnswer,
+    pub answer: Result<Hearing, Refusal>,
     // A part of the lent packet: its payload if that is sent, else empty.
     pub audio: &'a [u8],
 }
@@ -20,10 +21,10 @@ pub struct Relayed<'a> {
 pub fn relay<'a>(b: Bench, n: u8, p: &'a [u8]) -> Relayed<'a>
     ensures { Relays b n p.entry result }
 {
-    let heard = packet(b, n, p);
+    let Answered { bench, answer } = packet(b, n, p);
     Relayed {
-        bench: heard.bench,
-        answer: heard.answer,
-        audio: audio(heard.answer, p),
+        bench,
+        answer,
+        audio: audio(answer, p),
     }
 }

@@ -1,16 +1,15 @@
 -- What an accepted call passed: each test of its list of refusals, by its name, so that no proof depends on a place in a list. Each list
 -- is here whole, for readers and for later calls, also where no proof asks for a test yet.
+use Rattle.std.proofs.lemmas.Bool.Decides.{nat_tests}
+use native.Mathlib.Omega.{arith}
 use Prim.Native.Nat.{ℕ, ◌≤◌}
 use mathlib.Core.Path.{◌≡◌}
-use mathlib.Core.Bool.{Bool, true, false, ◌&&◌}
+use mathlib.Core.Bool.{Bool, true, false}
 use mathlib.Core.List.{List}
-use lib.Dec.{leb}
-use borrow.Author.Tests.{leb-true, not-false}
-use Rattle.base.proofs.Truths.{and_left, and_right, and_rest}
 use Rattle.packet.specs.Refusals.{NoCase}
 use Rattle.record.specs.Kind.{kind_of, has_one_side}
 use Rattle.record.specs.Record.{no_such_seat, seat_of, lesson}
-use Rattle.seats.specs.Opening.{shortest, longest, fewest, most, asks_coupling, any_coupling, times_allowed, open_refusals, seat_refusals}
+use Rattle.seats.specs.Opening.{shortest, longest, fewest, most, asks_coupling, any_coupling, open_refusals, seat_refusals}
 use Rattle.seats.specs.Radio.{side_refusals}
 use Rattle.record.specs.declared.setup.Setup.{Setup}
 use Rattle.record.specs.declared.seat.Seat.{Seat}
@@ -28,20 +27,7 @@ pub record OpenAccepted (setup : Setup) (n : ℕ) (seats : List Seat) (r : Reque
 
 pub open_accepted : (setup : Setup) (n : ℕ) (seats : List Seat) (r : Request) → NoCase (open_refusals setup n seats r) → OpenAccepted setup n seats r
 unfolding open_refusals
-open_accepted setup n seats r none =
-    let all : times_allowed r ≡ true = not-false (times_allowed r) none.1.1.0 in
-    let three = and_left (leb shortest r.period && leb r.period longest && leb fewest r.multiplier) (leb r.multiplier most) all in
-    let two = and_left (leb shortest r.period && leb r.period longest) (leb fewest r.multiplier) three in
-    record {
-      is_seat = none.0;
-      was_closed = none.1.0;
-      period_least = leb-true shortest r.period (and_left (leb shortest r.period) (leb r.period longest) two);
-      period_most = leb-true r.period longest (and_right (leb shortest r.period) (leb r.period longest) two);
-      multiplier_least = leb-true fewest r.multiplier (and_right (leb shortest r.period && leb r.period longest) (leb fewest r.multiplier) three);
-      multiplier_most = leb-true r.multiplier most (and_right (leb shortest r.period && leb r.period longest && leb fewest r.multiplier) (leb r.multiplier most) all);
-      lesson_not_coupling = and_rest (lesson setup n) (asks_coupling r) none.1.1.1.0;
-      coupling_free = and_rest (asks_coupling r) (any_coupling seats) none.1.1.1.1.0;
-    }
+open_accepted setup n seats r none = record { is_seat = none.0; was_closed = none.1.0; period_least = grind (arith, nat_tests, none.1.1.0); period_most = grind (arith, nat_tests, none.1.1.0); multiplier_least = grind (arith, nat_tests, none.1.1.0); multiplier_most = grind (arith, nat_tests, none.1.1.0); lesson_not_coupling = λ h. grind (arith, none.1.1.1.0); coupling_free = λ h. grind (arith, none.1.1.1.1.0) }
 
 pub record SeatAccepted (n : ℕ) (opened : Bool) : Type 0 where
   pub is_seat : no_such_seat n ≡ false
@@ -49,7 +35,7 @@ pub record SeatAccepted (n : ℕ) (opened : Bool) : Type 0 where
 
 pub seat_accepted : (n : ℕ) (opened : Bool) → NoCase (seat_refusals n opened) → SeatAccepted n opened
 unfolding seat_refusals
-seat_accepted n opened none = record { is_seat = none.0; was_open = not-false _ none.1.0 }
+seat_accepted n opened none = record { is_seat = none.0; was_open = grind (arith, none.1.0) }
 
 pub side_accepted : (setup : Setup) → NoCase (side_refusals setup) → has_one_side (kind_of setup.kind) ≡ false
 unfolding side_refusals

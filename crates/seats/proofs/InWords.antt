@@ -1,4 +1,5 @@
 -- Opening, closing and the side event, held to InWords.
+use Rattle.std.proofs.lemmas.Bool.Decides.{nat_tests}
 use Prim.Native.Nat.{ℕ, suc, ◌≤◌, ◌<◌}
 use mathlib.Core.Path.{◌≡◌, refl, sym, ap, ◌∙◌}
 use mathlib.Core.Bool.{Bool, true, false, not, ◌&&◌, ◌||◌, false≢true}
@@ -7,8 +8,8 @@ use mathlib.Core.Logic.{inl, inr}
 use native.Mathlib.Omega.{arith}
 use lib.Dec.{ltb, leb, eqb}
 use lib.ListN.{length, get_or}
-use borrow.Author.Tests.{ltb-true, lt-ltb, leb-false, lt-leb, eqb-true, eqb-false, ne_eqb, not-true}
-use Rattle.base.proofs.Truths.{and_left, and_right, and_none, ◌and◌, or_true}
+use borrow.Author.Tests.{ltb-true, leb-false, eqb-true, eqb-false, not-true}
+use Rattle.base.proofs.Truths.{and_left, and_right, ◌and◌}
 use Rattle.packet.proofs.InWords.{MetIf, Agree}
 use Rattle.record.specs.Kind.{kind_of, has_one_side}
 use Rattle.record.specs.Record.{no_such_seat, closed_seat, opened_seat, seat_of, lesson}
@@ -33,8 +34,8 @@ seat_to n e = by_case (eqb n 0) refl e
     by_case false q e = inr (ltb-true 8 n e)
 
 seat_from : (n : ℕ) → NoSeat n → no_such_seat n ≡ true
-seat_from n (inl e) = rw e
-seat_from n (inr h) = simp (lt-ltb 8 n h) (or_true (eqb n 0))
+seat_from n (inl e) = grind (arith, nat_tests)
+seat_from n (inr h) = grind (arith, nat_tests)
 
 module _ (b : Bench) (n : ℕ) where
   pub seat_13 : MetIf (SeatBarred b n) 13 (no_such_seat n)
@@ -85,10 +86,10 @@ module _ (b : Bench) (n : ℕ) (r : Request) where
       to true true true true p q s t h = absurd (false≢true h)
 
       only_if : (c : ℕ) → OpenBarred b n r 16 c → (not (times_allowed r) ≡ true) × (c ≡ 0)
-      only_if c (too_short h) = (simp (lt-leb 20 r.period h), refl)
-      only_if c (period_too_long h) = (simp (lt-leb r.period 1000 h, and_none), refl)
-      only_if c (too_few h) = (simp (lt-leb 2 r.multiplier h, and_none), refl)
-      only_if c (too_many h) = (simp (lt-leb r.multiplier 50 h, and_none), refl)
+      only_if c (too_short h) = (grind (arith, nat_tests), refl)
+      only_if c (period_too_long h) = (grind (arith, nat_tests), refl)
+      only_if c (too_few h) = (grind (arith, nat_tests), refl)
+      only_if c (too_many h) = (grind (arith, nat_tests), refl)
 
   asks_to : asks_coupling r ≡ true → r.call ≡ Coupling
   asks_to e = by_call r.call e
@@ -110,7 +111,7 @@ module _ (b : Bench) (n : ℕ) (r : Request) where
       }
     where
       only_if : (c : ℕ) → OpenBarred b n r 17 c → (lesson b.setup n && asks_coupling r ≡ true) × (c ≡ 0)
-      only_if c (lesson_coupling h e) = (simp (h, asks_from e), refl)
+      only_if c (lesson_coupling h e) = (grind (arith, asks_from e), refl)
 
   -- the place of a seat of call type Coupling
   coupling_at : (ss : List Seat) → any_coupling ss ≡ true → (i : ℕ) × (i < length ss) × (holds_coupling (get_or ss i closed_seat) ≡ true)
@@ -139,7 +140,7 @@ module _ (b : Bench) (n : ℕ) (r : Request) where
       any k up is false e = sym (none_coupling b.seats k e) ∙ simp (up, is)
 
       only_if : (c : ℕ) → OpenBarred b n r 18 c → (asks_coupling r && any_coupling b.seats ≡ true) × (c ≡ 2005)
-      only_if c (coupling_taken e k up is) = (simp (asks_from e, any k up is (any_coupling b.seats) refl), refl)
+      only_if c (coupling_taken e k up is) = (grind (arith, nat_tests, asks_from e, none_coupling b.seats k, up, is), refl)
 
   pub open_agrees : length b.seats ≡ 8 → Agree (OpenBarred b n r) (open_refusals b.setup n b.seats r)
   unfolding open_refusals
@@ -157,9 +158,9 @@ own_is n call = by_cases (eqb call 2) (eqb call 3) refl refl
 
 -- no other number is
 pub own_only : (n call id : ℕ) → OwnId n call id → id ≡ own_id n call
-own_only n call _ (keys (inl e)) = rw e
-own_only n call _ (keys (inr e)) = rw e
-own_only n call _ (listens two three) = simp (ne_eqb call 2 two, ne_eqb call 3 three)
+own_only n call _ (keys (inl e)) = grind (arith, nat_tests)
+own_only n call _ (keys (inr e)) = grind (arith, nat_tests)
+own_only n call _ (listens two three) = grind (arith, nat_tests, two, three)
 
 coded : (c : CallType) → Coded c (call_code c)
 coded Idle = idle
@@ -187,4 +188,4 @@ event_agrees b = (record { if_holds = by_kind (eqb b.setup.kind 1) (eqb b.setup.
     by_kind false false p q e = single (eqb-false b.setup.kind 1 p) (eqb-false b.setup.kind 2 q)
 
     only_if : (c : ℕ) → EventBarred b.setup.kind 23 c → (has_one_side (kind_of b.setup.kind) ≡ true) × (c ≡ 0)
-    only_if c (single one two) = (simp (ne_eqb b.setup.kind 1 one, ne_eqb b.setup.kind 2 two), refl)
+    only_if c (single one two) = (grind (arith, nat_tests, one, two), refl)

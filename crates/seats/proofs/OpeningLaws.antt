@@ -1,12 +1,12 @@
 -- 18: whether a seat is Coupling, as the code asks it of all seats and as it is asked of one.
+use native.Mathlib.Omega.{arith}
 use Prim.Native.Nat.{ℕ, zero, suc, ◌-◌}
-use mathlib.Core.Path.{◌≡◌, refl, ap}
-use mathlib.Core.Bool.{Bool, true, false, cond, ◌||◌}
+use mathlib.Core.Path.{◌≡◌, refl}
+use mathlib.Core.Bool.{false}
 use mathlib.Core.List.{List, [], ◌∷◌}
 use lib.ListN.{get_or}
 use Rattle.std.specs.List.{list_any}
-use Rattle.base.proofs.Truths.{or_left, or_right}
-use Rattle.record.specs.Record.{no_such_seat, seat_of, closed_seat}
+use Rattle.record.specs.Record.{seat_of, closed_seat}
 use Rattle.record.specs.declared.seat.Seat.{Seat}
 use Rattle.seats.specs.Opening.{holds_coupling, any_coupling}
 
@@ -14,19 +14,15 @@ use Rattle.seats.specs.Opening.{holds_coupling, any_coupling}
 pub coupling_any : (ss : List Seat) → list_any holds_coupling ss ≡ any_coupling ss
 unfolding any_coupling
 coupling_any [] = refl
-coupling_any (s ∷ ss) = ap (λ (t : Bool). holds_coupling s || t) (coupling_any ss)
+coupling_any (s ∷ ss) = grind (arith, coupling_any ss)
 
 none_at_place : (ss : List Seat) (i : ℕ) → any_coupling ss ≡ false → holds_coupling (get_or ss i closed_seat) ≡ false
 unfolding any_coupling
 none_at_place [] i e = refl
-none_at_place (s ∷ ss) zero e = or_left (holds_coupling s) (any_coupling ss) e
-none_at_place (s ∷ ss) (suc i) e = none_at_place ss i (or_right (holds_coupling s) (any_coupling ss) e)
+none_at_place (s ∷ ss) zero e = grind arith
+none_at_place (s ∷ ss) (suc i) e = grind (arith, none_at_place ss i)
 
 -- no seat is Coupling
 pub none_coupling : (ss : List Seat) (n : ℕ) → any_coupling ss ≡ false → holds_coupling (seat_of ss n) ≡ false
 unfolding seat_of
-none_coupling ss n e = by_case (no_such_seat n)
-  where
-    by_case : (none : Bool) → holds_coupling (cond none closed_seat (get_or ss (n - 1) closed_seat)) ≡ false
-    by_case true = refl
-    by_case false = none_at_place ss (n - 1) e
+none_coupling ss n e = grind (arith, none_at_place ss (n - 1))

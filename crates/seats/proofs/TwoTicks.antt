@@ -1,14 +1,14 @@
 -- One seat in two ticks, of a ms and then of b, and in the merged one, of a + b: of any seat, whatever it holds. At the end a tick of 0.
+use Rattle.std.proofs.lemmas.Bool.Decides.{nat_tests}
 use Prim.Native.Nat.{ℕ, ◌+◌, ◌-◌, ◌%◌, ◌≤◌, ◌<◌}
-use mathlib.Core.Path.{◌≡◌, refl, sym, ap, ap₂, ◌∙◌}
+use mathlib.Core.Path.{◌≡◌, refl, sym, ap, ◌∙◌}
 use mathlib.Core.Bool.{Bool, true, false, cond, not, ◌&&◌, ◌||◌, false≢true}
 use mathlib.Core.List.{List, [], ◌∷◌, map}
 use native.Mathlib.Omega.{arith}
 use native.Mathlib.Nat.{mod-add-mod, mod-eq_of_lt, add_assoc, add-zero}
 use lib.Dec.{leb, eqb}
-use borrow.Author.Tests.{leb-true, leb-false, le-leb, lt-leb, eqb-true, eqb-false}
-use Rattle.base.proofs.Tests.{tests}
-use Rattle.base.proofs.Truths.{and_none, and_not, or_none, choice_true, choice_false}
+use borrow.Author.Tests.{lt-leb, eqb-true, eqb-false}
+use Rattle.base.proofs.Truths.{and_none, and_not, or_none}
 use Rattle.record.specs.Record.{closed_seat}
 use Rattle.seats.specs.Ticking.{nothing_left, falls_silent, phase_after, is_due, aged, ticked_seat}
 use Rattle.record.specs.declared.seat.Seat.{Seat}
@@ -17,29 +17,19 @@ use Rattle.record.specs.declared.seat.Seat.{Seat}
 
 -- "A tick takes its ms from that": the second tick tests what the merged one tests
 pub left_adds : (a b : ℕ) (s : Seat) → nothing_left b (aged a s) ≡ nothing_left (a + b) s
-left_adds a b s = by_tests (nothing_left b (aged a s)) (nothing_left (a + b) s) refl refl
-  where
-    by_tests : (second merged : Bool) → nothing_left b (aged a s) ≡ second → nothing_left (a + b) s ≡ merged → second ≡ merged
-    by_tests true true e f = refl
-    by_tests true false e f = absurd (omega (arith, leb-true, leb-false))
-    by_tests false true e f = absurd (omega (arith, leb-true, leb-false))
-    by_tests false false e f = refl
+left_adds a b s = grind (arith, nat_tests)
 
 -- and where nothing is left, nothing is left later
 pub left_falls : (a b : ℕ) (s : Seat) → nothing_left a s ≡ true → nothing_left (a + b) s ≡ true
-left_falls a b s e = by_test (nothing_left (a + b) s) refl
-  where
-    by_test : (t : Bool) → nothing_left (a + b) s ≡ t → t ≡ true
-    by_test true f = refl
-    by_test false f = absurd (omega (arith, leb-true, leb-false))
+left_falls a b s e = grind (arith, nat_tests)
 
 -- "the phase is kept": what is left over when periods run out goes on counting (a period of 0 keeps none)
 module _ (ms period phase : ℕ) where
   phase_kept : (period ≡ 0 → ⊥) → phase_after ms period phase ≡ (phase + ms) % period
-  phase_kept h = sym (search (tests, choice_false))
+  phase_kept h = grind (arith, nat_tests)
 
   phase_none : period ≡ 0 → phase_after ms period phase ≡ 0
-  phase_none e = sym (search (tests, choice_true))
+  phase_none e = grind (arith, nat_tests)
 
   pub phase_goes_on : phase + ms < period → phase_after ms period phase ≡ phase + ms
   phase_goes_on h = phase_kept (λ (none : period ≡ 0). omega arith) ∙ mod-eq_of_lt h
@@ -57,41 +47,25 @@ phase_adds a b period phase = by_period (eqb period 0) refl
 
 -- "several in one tick count once"
 pub period_adds : (a b period phase : ℕ) → leb period (phase + a) || leb period (phase_after a period phase + b) ≡ leb period (phase + (a + b))
-period_adds a b period phase = by_first (leb period (phase + a)) refl
-  where
-    by_first : (t : Bool) → leb period (phase + a) ≡ t → t || leb period (phase_after a period phase + b) ≡ leb period (phase + (a + b))
-    by_first true e = let h : period ≤ phase + a = leb-true _ _ e in sym (le-leb period (phase + (a + b)) (omega arith))
-    by_first false e =
-        ap (λ (n : ℕ). leb period (n + b)) (phase_goes_on a period phase (leb-false _ _ e)) ∙ ap (leb period) (add_assoc phase a b)
+period_adds a b period phase = grind (arith, nat_tests, phase_goes_on a period phase)
 
 -- ---- the seat
 
 pub aged_adds : (a b : ℕ) (s : Seat) → aged b (aged a s) ≡ aged (a + b) s
-aged_adds a b s =
-    let left : s.left - a - b ≡ s.left - (a + b) = omega arith in
-    rw (left, phase_adds a b s.period s.phase)
+aged_adds a b s = grind (arith, phase_adds a b s.period s.phase)
 
 open_ticks : (ms : ℕ) (s : Seat) → s.opened ≡ true → ticked_seat ms s ≡ cond (nothing_left ms s) closed_seat (aged ms s)
 unfolding ticked_seat
-open_ticks ms s = ap (λ (t : Bool). cond t (cond (nothing_left ms s) closed_seat (aged ms s)) s)
+open_ticks ms s = λ h. grind arith
 
 pub ticks_add : (a b : ℕ) (s : Seat) → ticked_seat b (ticked_seat a s) ≡ ticked_seat (a + b) s
 unfolding ticked_seat
-ticks_add a b s = by_tests s.opened (nothing_left a s) refl refl
-  where
-    by_tests : (opened silent : Bool) → s.opened ≡ opened → nothing_left a s ≡ silent
-        → ticked_seat b (cond opened (cond silent closed_seat (aged a s)) s) ≡ ticked_seat (a + b) s
-    by_tests false silent o n = simp o
-    by_tests true true o n = simp (o, left_falls a b s n)
-    by_tests true false o n =
-        open_ticks b (aged a s) o
-        ∙ ap₂ (λ (t : Bool) (older : Seat). cond t closed_seat older) (left_adds a b s) (aged_adds a b s)
-        ∙ sym (open_ticks (a + b) s o)
+ticks_add a b s = grind (arith, nat_tests, aged_adds a b s, left_adds a b s, left_falls a b s)
 
 -- and every seat
 pub seats_add : (a b : ℕ) (seats : List Seat) → map (ticked_seat b) (map (ticked_seat a) seats) ≡ map (ticked_seat (a + b)) seats
 seats_add a b [] = refl
-seats_add a b (s ∷ seats) = ap₂ (λ (t : Seat) (ts : List Seat). t ∷ ts) (ticks_add a b s) (seats_add a b seats)
+seats_add a b (s ∷ seats) = grind (arith, ticks_add a b s, seats_add a b seats)
 
 -- ---- what is told of it
 
@@ -173,7 +147,4 @@ in_time_unmoved s in-time = by_test s.opened refl
 -- and only then
 pub unmoved_in_time : (s : Seat) → falls_silent 0 s ≡ false → is_due 0 s ≡ false → InTime s
 unfolding falls_silent is_due
-unmoved_in_time s silent due o =
-    let some : 0 < s.left = leb-false _ _ (simp o at silent) in
-    let early : s.phase + 0 < s.period = leb-false _ _ (simp (o, lt-leb _ _ some) at due) in
-    (some, (omega arith))
+unmoved_in_time s silent due o = (grind (arith, nat_tests), grind (arith, nat_tests))

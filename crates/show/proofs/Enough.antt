@@ -1,9 +1,10 @@
 -- No packet is longer than 376 bytes, so what lies behind the first 377 cannot change the line: a program may leave it unread.
-use Prim.Native.Nat.{ℕ, zero, suc, ◌+◌, ◌*◌, ◌-◌, ◌≤◌, ◌<◌}
+use Prim.Native.Nat.{ℕ, ◌+◌, ◌*◌, ◌-◌, ◌≤◌, ◌<◌}
 use mathlib.Core.Path.{◌≡◌, refl, ap, sym, ◌∙◌}
 use mathlib.Core.Bool.{Bool, true, false, not, cond, ◌||◌}
-use mathlib.Core.List.{List, [], ◌∷◌, ◌++◌}
+use mathlib.Core.List.{List, ◌∷◌, ◌++◌}
 use native.Mathlib.Omega.{arith}
+use Rattle.std.proofs.lemmas.List.{drop-take}
 use borrow.Author.Tests.{le-ltb, leb-true, leb-false, ltb-false}
 use lib.Dec.{leb, ltb, eqb}
 use lib.ListN.{length, take, drop}
@@ -37,20 +38,15 @@ module _ {A B : Type 0} (f g : Answer A → B) (same : (n c : ℕ) → f (refuse
       by false later = later refl
 
 too_long : (kind n : ℕ) → 240 < n → not (payload_allowed kind n) ≡ true
-too_long kind n h = by (payload_allowed kind n) refl
-  where
-    by : (t : Bool) → payload_allowed kind n ≡ t → not t ≡ true
-    by true e = absurd (omega (arith, payload_most kind n e))
-    by false e = refl
+too_long kind n h = grind (arith, payload_most)
 
 much_left : (p : List ℕ) → 377 ≤ length p → payload_at p ≤ 136 → 240 < length (payload p)
 much_left p h k = omega (arith, payload_length p)
 
 part_of_front : (count from n : ℕ) (p : List ℕ) → from + count ≤ n → take count (drop from (take n p)) ≡ take count (drop from p)
-part_of_front count zero n p h = take-take count n p (omega arith)
-part_of_front count (suc from) zero p h = absurd (omega arith)
-part_of_front count (suc from) (suc n) [] h = refl
-part_of_front count (suc from) (suc n) (b ∷ p) h = part_of_front count from n p (omega arith)
+part_of_front count from n p h =
+    let e : n ≡ from + (n - from) = omega arith in
+    rw (e, drop-take) (take-take count (n - from) (drop from p) (omega arith))
 
 module _ (p : List ℕ) (long : 377 ≤ length p) where
   abbrev front : List ℕ

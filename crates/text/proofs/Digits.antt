@@ -4,10 +4,11 @@ use mathlib.Core.Path.{◌≡◌, refl, ap}
 use mathlib.Core.Bool.{cond}
 use mathlib.Core.List.{List, [], ◌∷◌, ◌++◌}
 use native.Mathlib.Omega.{arith}
+use Rattle.std.proofs.lemmas.Bool.Decides.{nat_tests}
 use native.Mathlib.Nat.{not-suc-le-zero}
-use borrow.Author.Tests.{lt-ltb, le-ltb}
+use borrow.Author.Tests.{lt-ltb}
 use lib.Dec.{ltb}
-use Rattle.text.specs.Text.{Written, digit, digits, decimal}
+use Rattle.text.specs.Text.{digit, digits, decimal}
 use Rattle.text.specs.Lines.{Puts}
 use Rattle.text.specs.declared.out.Line.{Line}
 use Rattle.text.proofs.Writing.{◌and◌}
@@ -24,12 +25,12 @@ bounds (suc j) (suc k) n p q =
 pub one_digit : (n : ℕ) → n < 10 → digit n ∷ [] ≡ decimal n
 unfolding decimal digits
 one_digit zero h = refl
-one_digit (suc n) h = rw (lt-ltb (suc n) 10 h)
+one_digit (suc n) h = grind (arith, nat_tests)
 
 pub more_digits : (n : ℕ) → 10 ≤ n → decimal (n / 10) ++ (digit n ∷ []) ≡ decimal n
 unfolding decimal digits
 more_digits zero h = absurd (not-suc-le-zero h)
-more_digits (suc n) h = rw (le-ltb (suc n) 10 h) (ap (λ (front : List ℕ). front ++ (digit (suc n) ∷ [])) (bounds (suc n / 10) n (suc n / 10) (omega arith) (omega arith)))
+more_digits (suc n) h = grind (arith, nat_tests, bounds (suc n / 10) n (suc n / 10) (omega arith) (omega arith))
 
 -- How `put_number` writes them.
 pub last_digit : {l m : Line} (n : ℕ) → n < 10 → Puts l m (digit n ∷ []) → Puts l m (decimal n)

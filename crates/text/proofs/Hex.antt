@@ -1,11 +1,11 @@
 -- The bytes of a slice written in hexadecimal, one after the other.
-use Prim.Native.Nat.{ℕ, ◌+◌, ◌<◌, min}
+use Prim.Native.Nat.{ℕ, ◌+◌, ◌<◌}
 use mathlib.Core.Path.{◌≡◌, refl, ap}
 use mathlib.Core.List.{List, [], ◌∷◌, ◌++◌}
 use native.Mathlib.Numerals.{add-one}
 use lib.ListN.{length, get_or, take}
 use lib.Seq.{take-suc}
-use Rattle.text.specs.Text.{Written, hex_byte, hex}
+use Rattle.text.specs.Text.{hex_byte, hex}
 use Rattle.text.specs.Lines.{Puts}
 use Rattle.text.specs.declared.out.Line.{Line}
 use Rattle.text.proofs.Writing.{◌and◌}

@@ -2,13 +2,10 @@
 -- join: `_then_`.
 use Prim.Native.Nat.{ℕ, zero, suc, ◌+◌, ◌-◌, ◌≤◌, min}
 use mathlib.Core.Path.{◌≡◌, refl, ap, sym, ◌∙◌}
-use mathlib.Core.Bool.{Bool, true, false}
 use mathlib.Core.List.{List, [], ◌∷◌, ◌++◌, append-nil}
 use native.Mathlib.Omega.{arith}
 use native.Mathlib.Nat.{add-zero}
-use borrow.Author.Tests.{leb-true, leb-false}
 use borrow.Rule.Slice.PartMut.{put_mid}
-use lib.Dec.{leb}
 use lib.ListN.{length, set, take, drop, length-append, length-take, length-drop, drop_of_length-le}
 use lib.Seq.{sets, set_out, length-sets}
 use Rattle.base.specs.Bytes.{overlaid}
@@ -24,13 +21,7 @@ sets_out l (x ∷ b) i h = ap (λ (m : List ℕ). sets m (suc i) b) (set_out l i
 
 -- past the end nothing is stored, so a place may be brought back to the end
 sets_clipped : (l b : List ℕ) (i : ℕ) → sets l (min i (length l)) b ≡ sets l i b
-sets_clipped l b i = by (leb i (length l)) refl
-  where
-    by : (t : Bool) → leb i (length l) ≡ t → sets l (min i (length l)) b ≡ sets l i b
-    by true p = ap (λ (k : ℕ). sets l k b) (omega (arith, leb-true i (length l) p))
-    by false p =
-        sets_out l b (min i (length l)) (omega (arith, leb-false i (length l) p))
-        ∙ sym (sets_out l b i (omega (arith, leb-false i (length l) p)))
+sets_clipped l b i = grind (arith, sets_out)
 
 pub nothing : (l : List ℕ) (from : ℕ) → Written l l from (min from (length l)) []
 nothing l from = record { buffer = refl; place = rw add-zero }

@@ -5,7 +5,8 @@ use mathlib.Core.List.{List}
 use mathlib.Core.Logic.{◌⊎◌, inl, inr}
 use Rattle.packet.specs.Refusals.{NoCase, Answer, accepted, refused, mapped}
 use Rattle.packet.proofs.Judged.{never}
-use Rattle.writer.specs.Writing.{from_rx, encode}
+use Rattle.packet.specs.Messages.{from_rx}
+use Rattle.writer.specs.Writing.{encode}
 use Rattle.record.specs.Record.{fresh_bench}
 use Rattle.air.specs.Air.{keyings, bench_air}
 use Rattle.air.proofs.Kept.{air_unread, right_at_start}

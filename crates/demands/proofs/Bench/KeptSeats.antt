@@ -8,16 +8,15 @@ use native.Mathlib.Omega.{arith}
 use native.Mathlib.Nat.{mod-lt, mul-pos}
 use lib.Dec.{eqb}
 use borrow.Author.Tests.{lt-ltb, le-leb, eqb-true, eq-eqb, ne_eqb, not-false, ltb-false}
+use Rattle.std.specs.Prelude.{Option, None, Some}
 use Rattle.base.specs.Bytes.{Bytes}
 use Rattle.base.proofs.Truths.{and_right, and_rest, or_left, or_right, or_rest}
 use Rattle.base.proofs.Numbers.{number16_small}
 use Rattle.packet.specs.Packet.{ptt_on}
 use Rattle.reader.specs.Reading.{message_of, items_here}
-use Rattle.packet.specs.declared.message.ClimaxItem.{ClimaxItem}
-use Rattle.packet.specs.declared.message.ClimaxItem.TheVariants as climax
-use Rattle.packet.specs.declared.message.SideItem.{SideItem}
-use Rattle.packet.specs.declared.message.SideItem.TheVariants as side
 use Rattle.packet.specs.declared.message.Tx.{Tx}
+use Rattle.packet.specs.declared.message.Side.TheVariants.{Main, Standby}
+use Rattle.packet.specs.declared.message.Side.{Side}
 use Rattle.record.specs.Kind.{kind_of}
 use Rattle.record.specs.Record.{zero_field, closed_seat, opened_seat, seat_of, lesson}
 use Rattle.seats.specs.Opening.{call_code, is_tx_rx, is_coupling, shortest, fewest, own_id}
@@ -54,14 +53,14 @@ zero_field_kept is_lesson kind call own =
       no_side = λ e. refl;
     }
 
-no_delay : (item : ClimaxItem) → has_delay item ≡ false → delay_of item ≡ 0
-no_delay climax.Absent e = refl
-no_delay (climax.Is v) e = cc
+no_delay : (item : Option ℕ) → has_delay item ≡ false → delay_of item ≡ 0
+no_delay None e = refl
+no_delay (Some v) e = cc
 
-no_side : (item : SideItem) → has_side item ≡ false → is_standby item ≡ false
-no_side side.Absent e = refl
-no_side side.Main e = refl
-no_side side.Standby e = e
+no_side : (item : Option Side) → has_side item ≡ false → is_standby item ≡ false
+no_side None e = refl
+no_side (Some Main) e = refl
+no_side (Some Standby) e = e
 
 -- a type is on or off
 pub on_or_off : (ptt : ℕ) → ptt ≤ 5 → ptt_on ptt ≡ not (eqb ptt 0)

@@ -12,10 +12,11 @@ use Rattle.packet.specs.Refusals.{Case, NoCase, accepted}
 use Rattle.packet.specs.InWords.{TurnedAway}
 use Rattle.packet.proofs.Judged.{judged_mapped, meets_none, accepts, none_of_both}
 use Rattle.packet.proofs.InWords.{Agree, agree_both, agree_alike}
-use Rattle.reader.specs.Reading.{reader_refusals, message_of, as_tx, read, read_tx}
+use Rattle.reader.specs.Reading.{reader_refusals, message_of, read, read_tx}
 use Rattle.reader.proofs.Passed.{passed}
 use Rattle.packet.specs.declared.message.Direction.TheVariants as direction
 use Rattle.packet.specs.declared.message.Tx.{Tx}
+use Rattle.packet.specs.Messages.{as_tx}
 use Rattle.record.specs.Record.{closed_seat, seat_of}
 use Rattle.seats.specs.Opening.{seat_refusals}
 use Rattle.seats.specs.Ticking.{nothing_left, aged, ticked_seat}

@@ -12,7 +12,8 @@ use Rattle.packet.specs.Refusals.{NoCase, accepted}
 use Rattle.packet.proofs.Judged.{accepts}
 use Rattle.reader.specs.Reading.{read_rx}
 use Rattle.packet.specs.Packet.{payload}
-use Rattle.writer.specs.Writing.{from_rx, head_of, encode}
+use Rattle.packet.specs.Messages.{from_rx}
+use Rattle.writer.specs.Writing.{head_of, encode}
 use Rattle.record.specs.Record.{no_such_seat, entry_of, with_entry, with_sequences, closed_seat, seat_of, fresh_bench, opened_seat}
 use Rattle.record.proofs.Seats.{entry_put, entry_changed, flag_is_seat, entry_none, entry_there}
 use Rattle.seats.specs.Opening.{opened_bench, closed_bench, seat_refusals}

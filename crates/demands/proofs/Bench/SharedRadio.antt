@@ -3,14 +3,15 @@ use Prim.Native.Nat.{ℕ}
 use mathlib.Core.Path.{◌≡◌, refl, ap, ◌∙◌}
 use mathlib.Core.Bool.{Bool, true, false, not}
 use mathlib.Core.List.{List, [], ◌∷◌}
+use Rattle.std.specs.Prelude.{Some}
 use Rattle.base.proofs.Truths.{and_none, or_none}
 use Rattle.packet.specs.Refusals.{accepted, refused}
 use Rattle.packet.proofs.Judged.{accepts}
 use Rattle.reader.specs.Reading.{reader_refusals, read_rx}
-use Rattle.writer.specs.Writing.{from_rx}
-use Rattle.packet.specs.declared.message.SideItem.TheVariants as item
 use Rattle.packet.specs.declared.message.Rx.{Rx}
 use Rattle.packet.specs.declared.message.Tx.{Tx}
+use Rattle.packet.specs.Messages.{from_rx}
+use Rattle.packet.specs.declared.message.Side.TheVariants.{Main}
 use Rattle.record.specs.Kind.{kind_code, kind_of, items_move_side, side_told}
 use Rattle.record.specs.Record.{fresh_bench, seat_of, lesson, with_side}
 use Rattle.seats.specs.Opening.{opened_bench, closed_bench, seat_refusals}
@@ -123,13 +124,13 @@ one_alone b n p shared live e =
 
 -- ---- the item that is told
 
-zero_told : (b : Bench) (n timestamp : ℕ) → IsShared b → (report_of b n timestamp).side ≡ item.Main
+zero_told : (b : Bench) (n timestamp : ℕ) → IsShared b → (report_of b n timestamp).side ≡ Some Main
 unfolding report_of
 zero_told b n timestamp shared = ap (λ (kind : Kind). side_told kind b.standby) shared
 
 zero_read : (b : Bench) → AirRight b → (n timestamp : ℕ) (sound : List ℕ) (room : ℕ) (bytes : List ℕ) → IsShared b
     → Narrow b.setup.ext (from_rx (report_of b n timestamp)) → (keeping b (report n timestamp sound room)).answer ≡ accepted (written bytes)
-    → (m : Rx) × (read_rx b.setup.ext bytes ≡ accepted m) × (m.side ≡ item.Main)
+    → (m : Rx) × (read_rx b.setup.ext bytes ≡ accepted m) × (m.side ≡ Some Main)
 unfolding report_said report_bytes
 zero_read b right n timestamp sound room bytes shared narrow e =
     let none = (was_accepted_lem b (report n timestamp sound room) (written bytes) e).0 in

@@ -8,9 +8,10 @@ use lib.Dec.{eqb}
 use borrow.Author.Tests.{eq-eqb}
 use Rattle.base.proofs.Truths.{and_none}
 use Rattle.packet.specs.Refusals.{Case, FirstCase, refused, cause_of, judged}
-use Rattle.reader.specs.Reading.{reader_refusals, message_of, read, read_tx, read_rx, as_tx, as_rx}
+use Rattle.reader.specs.Reading.{reader_refusals, message_of, read, read_tx, read_rx}
 use Rattle.packet.specs.declared.message.Direction.TheVariants as direction
 use Rattle.packet.proofs.Judged.{never, judged_mapped, accepts, meets_none}
+use Rattle.packet.specs.Messages.{as_tx, as_rx}
 use Rattle.demands.specs.Exact.{Exact, ReadersExact}
 
 module _ {A : Type 0} (a : A) where

@@ -1,24 +1,24 @@
 -- The message of an accepted packet: its numbers fit, the writer takes it, and it says only what its direction can.
-use Prim.Native.Nat.{ℕ, zero, suc}
-use mathlib.Core.Path.{◌≡◌, refl, subst}
-use mathlib.Core.Bool.{Bool, true, false, cond, ◌||◌, false≢true}
+use Prim.Native.Nat.{ℕ}
+use mathlib.Core.Path.{◌≡◌}
+use mathlib.Core.Bool.{Bool, true, ◌||◌}
 use mathlib.Core.List.{List}
 use native.Mathlib.Omega.{arith}
 use lib.Dec.{eqb}
 use lib.ListN.{length}
-use borrow.Author.Tests.{le-leb, eqb-true, ne_eqb}
+use borrow.Author.Tests.{le-leb, eqb-true}
+use Rattle.std.specs.Prelude.{Option}
 use Rattle.base.specs.Bytes.{Bytes}
-use Rattle.base.proofs.Numbers.{number16_small, number32_small}
-use Rattle.packet.specs.Packet.{extension_at, audio_type, r2s_type, audio_length, payload_type, payload, payload_allowed, field, ptt_type, ptt_id, squ, sct}
+use Rattle.packet.specs.Packet.{audio_type, r2s_type, audio_length, payload_type, payload, payload_allowed, field, ptt_type, ptt_id, squ, sct}
 use Rattle.packet.specs.Items.{kept}
 use Rattle.packet.specs.Refusals.{accepted}
-use Rattle.reader.specs.Reading.{message_of, items_here, read, as_tx, as_rx}
-use Rattle.writer.specs.Writing.{from_tx, from_rx, kind_for, writable}
+use Rattle.reader.specs.Reading.{message_of, items_here, read}
+use Rattle.writer.specs.Writing.{kind_for, writable}
 use Rattle.packet.specs.declared.message.Direction.{Direction}
 use Rattle.packet.specs.declared.message.Direction.TheVariants.{Tx, Rx}
-use Rattle.packet.specs.declared.message.SqiItem.{SqiItem}
-use Rattle.packet.specs.declared.message.ClimaxItem.{ClimaxItem}
 use Rattle.packet.specs.declared.message.Message.{Message}
+use Rattle.packet.specs.Messages.{as_tx, as_rx, from_tx, from_rx}
+use Rattle.packet.specs.declared.message.Sqi.{Sqi}
 use Rattle.demands.specs.RoundTrip.{Narrow}
 use Rattle.demands.specs.LaidOut.{AllStand}
 use Rattle.reader.proofs.Passed.{Passed, accepted_passed, field_passed}
@@ -28,19 +28,10 @@ use Rattle.demands.proofs.Demand2.Laid.{Says}
 
 -- ---- the kind and the payload
 
-audio_some : (n : ℕ) → audio_length n ≡ true → eqb n 0 ≡ false
-audio_some zero e = absurd (false≢true e)
-audio_some (suc n) e = ne_eqb (suc n) 0 (omega arith)
-
 -- the payload's length tells the kind, and a writer takes it
 kind_and_sound : (k n : ℕ) → (eqb k audio_type || eqb k r2s_type) ≡ true → payload_allowed k n ≡ true → (k ≡ kind_for n) × ((eqb n 0 || audio_length n) ≡ true)
 unfolding payload_allowed
-kind_and_sound k n e h = by_kind (eqb k audio_type) refl e h
-  where
-    by_kind : (t : Bool) → eqb k audio_type ≡ t → (t || eqb k r2s_type) ≡ true → cond t (audio_length n) (eqb n 0) ≡ true
-        → (k ≡ kind_for n) × ((eqb n 0 || audio_length n) ≡ true)
-    by_kind true p q r = simp (audio_some n r) (eqb-true k audio_type p, r)
-    by_kind false p q r = simp r (eqb-true k r2s_type q, refl)
+kind_and_sound k n e h = grind arith
 
 -- ---- what the writer asks
 
@@ -54,13 +45,7 @@ module _ (d : Direction) (ext : ℕ) (p : List ℕ) (small : Bytes p) (h : Passe
 
   pub numbers_fit : Narrow ext (message_of p)
   unfolding message_of items_here
-  numbers_fit =
-      record {
-        extension = rw h.type_is at (number16_small p small (extension_at p));
-        sequence = number16_small p small 2;
-        timestamp = number32_small p small 4;
-        ssrc = number32_small p small 8;
-      }
+  numbers_fit = grind arith
 
   pub message_writable : writable (message_of p) (length (payload p)) ≡ true
   unfolding writable message_of kept items_here
@@ -88,12 +73,10 @@ message_says Tx ext p small h =
 message_says Rx ext p small h = no_climax_in_rx (items_here p) (items_stand Rx ext p small h)
 
 says : (d : Direction) (ext : ℕ) (p : List ℕ) (m : Message) → Bytes p → read d ext p ≡ accepted m → Says d m
-says d ext p m small e =
-    let known = accepted_passed d ext p m e in
-    subst (Says d) known.1 (message_says d ext p small known.0)
+says d ext p m small e = grind (arith, accepted_passed, message_says)
 
 -- a message, with what only one direction can say put in anew
-abbrev saying : Message → (squ sct : Bool) → SqiItem → ClimaxItem → Message
+abbrev saying : Message → (squ sct : Bool) → Option Sqi → Option ℕ → Message
 saying m squ sct q c =
     record {
       sequence = m.sequence;

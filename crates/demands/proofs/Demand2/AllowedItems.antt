@@ -1,46 +1,36 @@
 -- Items that may stand in a packet: which they are, and that by rising type they are those of the message that keeps them.
-use Prim.Native.Nat.{ℕ, zero, suc, ◌+◌, ◌/◌, ◌%◌, ◌≤◌, ◌<◌}
-use mathlib.Core.Path.{◌≡◌, refl, ap, sym, subst, ◌∙◌}
-use mathlib.Core.Bool.{Bool, true, false, cond, ◌&&◌, ◌||◌, false≢true}
+use Prim.Native.Nat.{ℕ, zero, suc, ◌+◌, ◌/◌, ◌%◌, ◌<◌}
+use mathlib.Core.Path.{◌≡◌, refl, ap, sym, subst}
+use mathlib.Core.Bool.{Bool, true, false, cond, ◌&&◌, false≢true}
 use mathlib.Core.List.{List, [], ◌∷◌}
 use native.Mathlib.Omega.{arith}
-use lib.Dec.{ltb, leb, eqb}
-use borrow.Author.Tests.{ltb-true, ltb-false, leb-true, eqb-true, le-leb, eq-eqb}
+use lib.Dec.{ltb, eqb}
+use borrow.Author.Tests.{ltb-true, ltb-false, eqb-true, le-leb}
 use lib.ListN.{length, take, length-take}
+use Rattle.std.specs.Prelude.{Option, None, Some}
 use Rattle.base.specs.Bytes.{byte_at, bytes8, placed, Bytes}
 use Rattle.base.proofs.Truths.{and_left, and_right}
-use Rattle.packet.specs.Items.{Item, Found, found, broken, behind, all_zero, item_length, items_behind, items_in, ddc_type, one_byte, value_byte, sqi_quality, sqi_method, climax_delay, sqi_allowed, climax_allowed, side_allowed, in_tx, in_rx, item_allowed, all_allowed, has_type, no_type_twice, run_allowed, items_allowed, listed, some_item, items_of, sqi_among, climax_among, kept}
+use Rattle.packet.specs.Items.{Item, Found, found, broken, behind, all_zero, item_length, items_behind, ddc_type, one_byte, value_byte, sqi_quality, sqi_method, climax_delay, sqi_allowed, climax_allowed, side_allowed, in_tx, in_rx, item_allowed, all_allowed, has_type, no_type_twice, run_allowed, items_allowed, listed, items_of, sqi_among, climax_among, kept}
 use Rattle.writer.specs.Writing.{side_listed, rising_items, sqi_writable, climax_writable}
 use Rattle.packet.specs.declared.message.Direction.{Direction}
 use Rattle.packet.specs.declared.message.Direction.TheVariants.{Tx, Rx}
-use Rattle.packet.specs.declared.message.SqiItem.TheVariants as sqi
-use Rattle.packet.specs.declared.message.ClimaxItem.TheVariants as climax
-use Rattle.packet.specs.declared.message.SideItem.{SideItem}
-use Rattle.packet.specs.declared.message.SideItem.TheVariants as side
 use Rattle.packet.specs.declared.message.Items.{Items}
+use Rattle.packet.specs.declared.message.Side.TheVariants.{Main, Standby}
+use Rattle.packet.specs.declared.message.Side.{Side}
 use Rattle.demands.specs.Plain.{Rising}
 use Rattle.demands.specs.LaidOut.{SqiValue, Stands, a_quality, a_delay, main, standby, stepped_over, AllStand}
 use Rattle.demands.proofs.Demand2.Items.{tail_bytes}
 use Rattle.demands.proofs.Demand2.Inversion.{take_bytes}
 use Rattle.demands.proofs.Demand2.ItemsBack.{AllWrite}
-use Rattle.demands.proofs.Demand2.RisingItems.{method_least, quality_least, sqi_value, climax_value, rising_kept}
+use Rattle.demands.proofs.Demand2.RisingItems.{sqi_value, climax_value, rising_kept}
 
 -- ---- what a line of the table asks
 
 pub sqi_allowed_lem : (q m : ℕ) → SqiValue q m → sqi_allowed q m ≡ true
-sqi_allowed_lem q m h = by_rssi (eqb m 0) refl
-  where
-    by_rssi : (t : Bool) → eqb m 0 ≡ t → leb m 3 && leb q (cond t 15 31) ≡ true
-    by_rssi true e = simp (le-leb m 3 h.known, le-leb q 15 (h.with_rssi (eqb-true m 0 e)))
-    by_rssi false e = simp (le-leb m 3 h.known, le-leb q 31 h.quality_most)
+sqi_allowed_lem q m h = grind arith
 
 sqi_may_stand : (q m : ℕ) → sqi_allowed q m ≡ true → SqiValue q m
-sqi_may_stand q m e =
-    record {
-      known = method_least q m e;
-      quality_most = quality_least q m e;
-      with_rssi = λ z. leb-true q 15 (sym (ap (λ (t : Bool). leb q (cond t 15 31)) (eq-eqb m 0 z)) ∙ and_right (leb m 3) _ e);
-    }
+sqi_may_stand q m e = grind arith
 
 -- ---- what the message keeps of them
 
@@ -64,7 +54,7 @@ climax_writable_lem d (_ ∷ is) (main _, s) = climax_writable_lem d is s
 climax_writable_lem d (_ ∷ is) (standby _, s) = climax_writable_lem d is s
 climax_writable_lem d (_ ∷ is) (stepped_over _ v h, s) = climax_writable_lem d is s
 
-pub no_sqi_in_tx : (is : List Item) → AllStand Tx is → sqi_among is ≡ sqi.Absent
+pub no_sqi_in_tx : (is : List Item) → AllStand Tx is → sqi_among is ≡ None
 unfolding sqi_among
 no_sqi_in_tx [] h = refl
 no_sqi_in_tx (_ ∷ is) (a_delay v h, s) = no_sqi_in_tx is s
@@ -72,7 +62,7 @@ no_sqi_in_tx (_ ∷ is) (main _, s) = no_sqi_in_tx is s
 no_sqi_in_tx (_ ∷ is) (standby _, s) = no_sqi_in_tx is s
 no_sqi_in_tx (_ ∷ is) (stepped_over _ v h, s) = no_sqi_in_tx is s
 
-pub no_climax_in_rx : (is : List Item) → AllStand Rx is → climax_among is ≡ climax.Absent
+pub no_climax_in_rx : (is : List Item) → AllStand Rx is → climax_among is ≡ None
 unfolding climax_among
 no_climax_in_rx [] h = refl
 no_climax_in_rx (_ ∷ is) (a_quality q m h, s) = no_climax_in_rx is s
@@ -104,19 +94,10 @@ Above t [] = Unit {0}
 Above t (i ∷ is) = t < i.type
 
 rises_on : (i : Item) (is : List Item) → Rising (i ∷ is) → Above i.type is × Rising is
-rises_on i [] r = (tt, tt)
-rises_on i (j ∷ is) r = r
-
-side_highest : (d : Direction) (i : Item) → Stands d i → i.type ≤ 5
-side_highest Rx _ (a_quality q m h) = omega arith
-side_highest Tx _ (a_delay v h) = omega arith
-side_highest d _ (main _) = omega arith
-side_highest d _ (standby _) = omega arith
-side_highest d _ (stepped_over _ v h) = omega arith
+rises_on i is r = grind arith
 
 none_above_side : (d : Direction) (is : List Item) → AllStand d is → Above 5 is → [] ≡ is
-none_above_side d [] s l = refl
-none_above_side d (i ∷ is) s l = absurd (omega (arith, side_highest d i s.0))
+none_above_side d is s l = grind arith
 
 -- each direction has one type of its own, below that of the side
 abbrev own_type : Direction → ℕ
@@ -124,33 +105,32 @@ own_type Tx = 2
 own_type Rx = 1
 
 own_below_side : (d : Direction) → own_type d < 5
-own_below_side Tx = omega arith
-own_below_side Rx = omega arith
+own_below_side d = grind arith
 
 -- above it stands the side alone, or nothing
 side_alone : (d : Direction) (is : List Item) → AllStand d is → has_type ddc_type is ≡ false → Above (own_type d) is → Rising is
-    → (e : SideItem) × (side_listed e ≡ is)
+    → (e : Option Side) × (side_listed e ≡ is)
 unfolding has_type
-side_alone d [] s n l r = (side.Absent, refl)
+side_alone d [] s n l r = (None, refl)
 side_alone Rx (_ ∷ is) (a_quality q m h, s) n l r = absurd (omega arith)
 side_alone Tx (_ ∷ is) (a_delay v h, s) n l r = absurd (omega arith)
-side_alone d (i ∷ is) (main _, s) n l r = (side.Main, ap (λ (js : List Item). i ∷ js) (none_above_side d is s (rises_on i is r).0))
-side_alone d (i ∷ is) (standby _, s) n l r = (side.Standby, ap (λ (js : List Item). i ∷ js) (none_above_side d is s (rises_on i is r).0))
+side_alone d (i ∷ is) (main _, s) n l r = (Some Main, ap (λ (js : List Item). i ∷ js) (none_above_side d is s (rises_on i is r).0))
+side_alone d (i ∷ is) (standby _, s) n l r = (Some Standby, ap (λ (js : List Item). i ∷ js) (none_above_side d is s (rises_on i is r).0))
 side_alone d (i ∷ is) (stepped_over _ v h, s) n l r = absurd (false≢true (sym n))
 
-from_side : {is : List Item} → (e : SideItem) × (side_listed e ≡ is) → Listed is
+from_side : {is : List Item} → (e : Option Side) × (side_listed e ≡ is) → Listed is
 unfolding rising_items
 from_side (e, h) =
-    record { items = record { sqi = sqi.Absent; climax = climax.Absent; side = e }; sqi_fits_lem = refl; climax_fits_lem = refl; are = h }
+    record { items = record { sqi = None; climax = None; side = e }; sqi_fits_lem = refl; climax_fits_lem = refl; are = h }
 
 rising_listed : (d : Direction) (is : List Item) → AllStand d is → has_type ddc_type is ≡ false → Rising is → Listed is
 unfolding rising_items has_type
-rising_listed d [] s n r = from_side (side.Absent, refl)
+rising_listed d [] s n r = from_side (None, refl)
 rising_listed Rx (i ∷ is) (a_quality q m h, s) n r =
     let on = rises_on i is r in
     let e = side_alone Rx is s n on.0 on.1 in
     record {
-      items = record { sqi = sqi.Is q m; climax = climax.Absent; side = e.0 };
+      items = record { sqi = Some (record { quality = q; method = m }); climax = None; side = e.0 };
       sqi_fits_lem = sqi_allowed_lem q m h;
       climax_fits_lem = refl;
       are = ap (λ (js : List Item). i ∷ js) e.1;
@@ -159,7 +139,7 @@ rising_listed Tx (i ∷ is) (a_delay v h, s) n r =
     let on = rises_on i is r in
     let e = side_alone Tx is s n on.0 on.1 in
     record {
-      items = record { sqi = sqi.Absent; climax = climax.Is v; side = e.0 };
+      items = record { sqi = None; climax = Some v; side = e.0 };
       sqi_fits_lem = refl;
       climax_fits_lem = le-leb v 127 h;
       are = ap (λ (js : List Item). i ∷ js) e.1;
@@ -170,9 +150,7 @@ rising_listed d (i ∷ is) (stepped_over _ v h, s) n r = absurd (false≢true (s
 
 -- they are the items of the message that keeps them
 pub rising_are_kept : (d : Direction) (is : List Item) → AllStand d is → has_type ddc_type is ≡ false → Rising is → rising_items (kept is) ≡ is
-rising_are_kept d is s n r =
-    let l = rising_listed d is s n r in
-    ap rising_items (ap kept (sym l.are) ∙ rising_kept l.items l.sqi_fits_lem l.climax_fits_lem) ∙ l.are
+rising_are_kept d is s n r = grind (arith, rising_kept, rising_listed)
 
 -- ---- from the tests
 
@@ -199,10 +177,7 @@ module _ (i : Item) (read : Short i.value) where
 
   -- an item known by its type and its byte
   stood : (d : Direction) (t n : ℕ) → is_one t ≡ true → v ≡ n % 256 → Stands d (record { type = t; value = bytes8 n }) → Stands d i
-  stood d t n e h s =
-      let value : i.value ≡ bytes8 n = one_value i.value (and_right (eqb i.type t) _ e) ∙ ap (λ (b : ℕ). b ∷ []) h in
-      subst (λ (u : ℕ). Stands d (record { type = u; value = i.value })) (sym (eqb-true i.type t (and_left _ (one_byte i) e)))
-      (subst (λ (w : List ℕ). Stands d (record { type = t; value = w })) (sym value) s)
+  stood d t n e h s = grind (arith, one_value)
 
   quality_stands : (d : Direction) → is_one 1 && in_rx d && sqi_allowed (sqi_quality v) (sqi_method v) ≡ true → Stands d i
   quality_stands Tx e = absurd (false≢true (and_right (is_one 1) false (and_left (is_one 1 && false) _ e)))
@@ -233,15 +208,7 @@ module _ (i : Item) (read : Short i.value) where
 
   allowed_stands : (d : Direction) → item_allowed d i ≡ true → Stands d i
   unfolding item_allowed
-  allowed_stands d e = by_line _ _ _ _ refl refl refl refl e
-    where
-      by_line : (a b c f : Bool) → is_one 1 && in_rx d && sqi_allowed (sqi_quality v) (sqi_method v) ≡ a → is_one 2 && in_tx d && climax_allowed v ≡ b
-          → is_one 5 && side_allowed v ≡ c → eqb i.type 4 ≡ f → (a || b || c || f) ≡ true → Stands d i
-      by_line true b c f p q r s h = quality_stands d p
-      by_line false true c f p q r s h = delay_stands d q
-      by_line false false true f p q r s h = side_stands d r
-      by_line false false false true p q r s h = ddc_stands d s
-      by_line false false false false p q r s h = absurd (false≢true h)
+  allowed_stands d e = grind (arith, ddc_stands, delay_stands, quality_stands, side_stands)
 
 abbrev AllShort : List Item → Type 0
 AllShort [] = Unit {0}
@@ -254,12 +221,10 @@ all_stand d (i ∷ is) h e =
     (allowed_stands i h.0 d (and_left (item_allowed d i) _ e), all_stand d is h.1 (and_right (item_allowed d i) _ e))
 
 short_behind : (i : Item) (f : Found) → Short i.value → AllShort (listed f) → AllShort (listed (behind i f))
-short_behind i (found is) h s = (h, s)
-short_behind i broken h s = tt
+short_behind i f h s = grind arith
 
 short_either : (t : Bool) (f g : Found) → AllShort (listed f) → AllShort (listed g) → AllShort (listed (cond t f g))
-short_either true f g h k = h
-short_either false f g h k = k
+short_either t f g h k = grind arith
 
 -- at most 15 bytes, where they are bytes
 taken_short : (head : ℕ) (bs : List ℕ) → Bytes bs → Short (take (item_length head) bs)
@@ -276,24 +241,8 @@ short_values zero (b ∷ bs) h =
 
 pub here_stand : (d : Direction) (x : ℕ) (bs : List ℕ) → Bytes bs → items_allowed d x bs ≡ true → AllStand d (items_of x bs)
 unfolding items_allowed items_of run_allowed
-here_stand d x bs small e = by_x (eqb x 0) e
-  where
-    by_run : (f : Found) → AllShort (listed f) → run_allowed d f ≡ true → AllStand d (listed f)
-    by_run (found is) s h = all_stand d is s (and_right (some_item is) _ (and_left (some_item is && all_allowed d is) _ h))
-    by_run broken s h = tt
-
-    by_x : (t : Bool) → cond t (all_zero bs) (run_allowed d (items_in bs)) ≡ true → AllStand d (cond t [] (listed (items_in bs)))
-    by_x true h = tt
-    by_x false h = by_run (items_in bs) (short_values 0 bs small) h
+here_stand d x bs small e = grind (arith, all_stand, short_values)
 
 pub here_once : (d : Direction) (x : ℕ) (bs : List ℕ) → items_allowed d x bs ≡ true → no_type_twice (items_of x bs) ≡ true
 unfolding items_allowed items_of run_allowed no_type_twice
-here_once d x bs e = by_x (eqb x 0) e
-  where
-    by_run : (f : Found) → run_allowed d f ≡ true → no_type_twice (listed f) ≡ true
-    by_run (found is) h = and_right (some_item is && all_allowed d is) _ h
-    by_run broken h = refl
-
-    by_x : (t : Bool) → cond t (all_zero bs) (run_allowed d (items_in bs)) ≡ true → no_type_twice (cond t [] (listed (items_in bs))) ≡ true
-    by_x true h = refl
-    by_x false h = by_run (items_in bs) h
+here_once d x bs e = grind arith

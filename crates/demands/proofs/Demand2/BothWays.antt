@@ -5,29 +5,27 @@ use mathlib.Core.Bool.{Bool, true, false, not}
 use mathlib.Core.List.{List, []}
 use lib.ListN.{length, take, drop}
 use lib.Seq.{take_at}
+use Rattle.std.specs.Prelude.{Result, Ok}
 use Rattle.packet.specs.Packet.{payload}
-use Rattle.packet.specs.Refusals.{Answer, accepted}
-use Rattle.reader.specs.Reading.{read_tx, read_rx, tx_answer, rx_answer}
-use Rattle.writer.specs.Writing.{from_tx, from_rx, encode, writable, write, filled, buffered, written_answer}
+use Rattle.packet.specs.Refusals.{Answer, accepted, answer_of}
+use Rattle.reader.specs.Reading.{read_tx, read_rx}
+use Rattle.writer.specs.Writing.{encode, writable, write, filled, buffered}
 use Rattle.record.specs.Record.{no_such_seat, entry_of}
 use Rattle.record.proofs.Seats.{flag_is_seat}
 use Rattle.seats.specs.Ticking.{silent_seats, due_seats, ticked_bench}
 use Rattle.reporting.specs.Reporting.{squ_told, report_of, report_refusals, report_said, report_bytes, report_buffer}
 use Rattle.sending.specs.Sending.{tick_refusals, after_closings, record_for, records, sent_bytes, tick_said, named_in, tick_sets, tick_buffer}
+use Rattle.packet.specs.declared.refusal.Refusal.{Refusal}
 use Rattle.packet.specs.declared.message.Message.{Message}
 use Rattle.packet.specs.declared.message.Tx.{Tx}
 use Rattle.packet.specs.declared.message.Rx.{Rx}
-use Rattle.reader.specs.declared.reading.TxRead.TheVariants as tx
-use Rattle.reader.specs.declared.reading.RxRead.TheVariants as rx
-use Rattle.writer.specs.declared.writing.Written.{Written}
-use Rattle.writer.specs.declared.writing.Written.TheVariants as written
 use Rattle.record.specs.declared.whole.Bench.{Bench}
 use Rattle.sending.specs.declared.sending.SeatSets.{SeatSets}
 use Rattle.base.proofs.Truths.{and_none}
 use Rattle.packet.proofs.Judged.{meets_none}
+use Rattle.packet.specs.Messages.{from_tx, from_rx}
+use Rattle.packet.proofs.TellApart.{answer_tells}
 use Rattle.air.proofs.Kept.{air_unread}
-use Rattle.reader.proofs.TellApart.{tx_tells, rx_tells}
-use Rattle.writer.proofs.TellApart.{written_tells}
 use Rattle.reporting.proofs.Told.{report_writable}
 use Rattle.sending.proofs.BySeat.{seat_record}
 use Rattle.demands.specs.RoundTrip.{Narrow}
@@ -42,47 +40,47 @@ use Rattle.demands.proofs.Promises.ReadBack.{read_back_lem as frames-back}
 -- ---- from a definition's answer to the function's
 
 reads_tx : (ext : ℕ) (bytes : List ℕ) (m : Tx) → read_tx ext bytes ≡ accepted m → ReadsTx ext bytes m
-reads_tx ext bytes m e k a r f h same p = tx_tells r (tx.Message m) (h ∙ ap₂ read_tx same p ∙ e)
+reads_tx ext bytes m e k a r f h same p = answer_tells r (Ok m) (h ∙ ap₂ read_tx same p ∙ e)
 
 reads_rx : (ext : ℕ) (bytes : List ℕ) (m : Rx) → read_rx ext bytes ≡ accepted m → ReadsRx ext bytes m
-reads_rx ext bytes m e k a r f h same p = rx_tells r (rx.Message m) (h ∙ ap₂ read_rx same p ∙ e)
+reads_rx ext bytes m e k a r f h same p = answer_tells r (Ok m) (h ∙ ap₂ read_rx same p ∙ e)
 
 hands_out : (bytes sound : List ℕ) → payload bytes ≡ sound → HandsOut bytes sound
 hands_out bytes sound e k a r f h p = h.0 ∙ ap payload p ∙ e
 
 writes_tx : (ext : ℕ) (m : Tx) (sound buffer : List ℕ) (long : ℕ) (left : List ℕ) → write ext (from_tx m) sound (length buffer) ≡ accepted long
     → buffered ext (from_tx m) sound buffer ≡ left → WritesTx ext m sound buffer long left
-writes_tx ext m sound buffer long left p q k a w e h t n s b = (written_tells w (written.Length long) (h.0 ∙ rw (t, n, s, b) p), h.1 ∙ rw (t, n, s, b) q)
+writes_tx ext m sound buffer long left p q k a w e h t n s b = (answer_tells w (Ok long) (h.0 ∙ rw (t, n, s, b) p), h.1 ∙ rw (t, n, s, b) q)
 
 writes_rx : (ext : ℕ) (m : Rx) (sound buffer : List ℕ) (long : ℕ) (left : List ℕ) → write ext (from_rx m) sound (length buffer) ≡ accepted long
     → buffered ext (from_rx m) sound buffer ≡ left → WritesRx ext m sound buffer long left
-writes_rx ext m sound buffer long left p q k a w e h t n s b = (written_tells w (written.Length long) (h.0 ∙ rw (t, n, s, b) p), h.1 ∙ rw (t, n, s, b) q)
+writes_rx ext m sound buffer long left p q k a w e h t n s b = (answer_tells w (Ok long) (h.0 ∙ rw (t, n, s, b) p), h.1 ∙ rw (t, n, s, b) q)
 
 -- ---- what was written is a message that is writable, in front of the buffer
 
-front : (ext : ℕ) (m : Message) (sound out left : List ℕ) (w : Written) (long : ℕ) → written_answer w ≡ write ext m sound (length out)
-    → left ≡ buffered ext m sound out → w ≡ written.Length long → (writable m (length sound) ≡ true) × (take long left ≡ encode ext m sound)
+front : (ext : ℕ) (m : Message) (sound out left : List ℕ) (w : Result ℕ Refusal) (long : ℕ) → answer_of w ≡ write ext m sound (length out)
+    → left ≡ buffered ext m sound out → w ≡ Ok long → (writable m (length sound) ≡ true) × (take long left ≡ encode ext m sound)
 front ext m sound out left w long h l e =
-    let z = written_at_front ext m sound out long (sym h ∙ ap written_answer e) in
+    let z = written_at_front ext m sound out long (sym h ∙ ap answer_of e) in
     (z.0, ap (take long) l ∙ z.1)
 
 -- ---- a report that was written, and each report of a tick, in its buffer
 
-report_front : (b : Bench) (n timestamp : ℕ) (sound out left : List ℕ) (w : Written) (long : ℕ)
-    → written_answer w ≡ report_said b n timestamp sound (length out) → left ≡ report_buffer b n timestamp sound out → w ≡ written.Length long
+report_front : (b : Bench) (n timestamp : ℕ) (sound out left : List ℕ) (w : Result ℕ Refusal) (long : ℕ)
+    → answer_of w ≡ report_said b n timestamp sound (length out) → left ≡ report_buffer b n timestamp sound out → w ≡ Ok long
     → (report_said b n timestamp sound (length out) ≡ accepted long) × (take long left ≡ report_bytes b n timestamp sound)
 unfolding report_said report_buffer
 report_front b n timestamp sound out left w long h l e =
-    let said = sym h ∙ ap written_answer e in
+    let said = sym h ∙ ap answer_of e in
     let bytes = report_bytes b n timestamp sound in
     let met = meets_none (report_refusals b n timestamp sound (length out)) (length bytes) long said in
     (said, ap (take long) l ∙ ap (λ (a : Answer ℕ). take long (filled a bytes out)) said ∙ take_at bytes (drop long out) long met.1)
 
-module _ (b : Bench) (ms timestamp : ℕ) (out left : List ℕ) (sets : SeatSets) (w : Written) (used : ℕ)
-    (h : written_answer w ≡ tick_said b ms timestamp (length out)) (s : sets ≡ tick_sets b ms timestamp (length out))
-    (l : left ≡ tick_buffer b ms timestamp out) (e : w ≡ written.Length used) where
+module _ (b : Bench) (ms timestamp : ℕ) (out left : List ℕ) (sets : SeatSets) (w : Result ℕ Refusal) (used : ℕ)
+    (h : answer_of w ≡ tick_said b ms timestamp (length out)) (s : sets ≡ tick_sets b ms timestamp (length out))
+    (l : left ≡ tick_buffer b ms timestamp out) (e : w ≡ Ok used) where
   said : tick_said b ms timestamp (length out) ≡ accepted used
-  said = sym h ∙ ap written_answer e
+  said = sym h ∙ ap answer_of e
 
   due_named : sets.due ≡ due_seats b ms
   unfolding tick_sets
@@ -133,15 +131,15 @@ both_ways = record {
       let back = sent_back a.0 a.1.0 n a.1.1.0 (flag_is_seat r.seats.due n is_due_lem) (narrow_tick k a owned n) in
       (reads_rx _ _ _ (ap (read_rx a.0.setup.ext) there ∙ back.0), hands_out _ _ (ap payload there ∙ back.1));
   read_tx = λ k a r e h m is small plain none buffer room.
-      let again = (rewrite_tx a.0 a.1.0.now m small (sym h ∙ ap tx_answer is)).stands plain none buffer room in
+      let again = (rewrite_tx a.0 a.1.0.now m small (sym h ∙ ap answer_of is)).stands plain none buffer room in
       writes_tx _ _ _ _ _ _ again.0 again.1;
   read_rx = λ k a r e h m is small plain none buffer room.
-      let again = (rewrite_rx a.0 a.1.0.now m small (sym h ∙ ap rx_answer is)).stands plain none buffer room in
+      let again = (rewrite_rx a.0 a.1.0.now m small (sym h ∙ ap answer_of is)).stands plain none buffer room in
       writes_rx _ _ _ _ _ _ again.0 again.1;
   only_tx = λ k a r e h m is small j b w f g t n s long wrote same.
       let there = front b.0 (from_tx b.1.0) b.1.1.0.now b.1.1.1.0.now f.1.1.1.0.now w long g.0 g.1 wrote in
-      (rewrite_tx a.0 a.1.0.now m small (sym h ∙ ap tx_answer is)).same.0 (sym (rw (t, n, s) at there.1) ∙ same);
+      (rewrite_tx a.0 a.1.0.now m small (sym h ∙ ap answer_of is)).same.0 (sym (rw (t, n, s) at there.1) ∙ same);
   only_rx = λ k a r e h m is small j b w f g t n s long wrote same.
       let there = front b.0 (from_rx b.1.0) b.1.1.0.now b.1.1.1.0.now f.1.1.1.0.now w long g.0 g.1 wrote in
-      (rewrite_rx a.0 a.1.0.now m small (sym h ∙ ap rx_answer is)).same.0 (sym (rw (t, n, s) at there.1) ∙ same);
+      (rewrite_rx a.0 a.1.0.now m small (sym h ∙ ap answer_of is)).same.0 (sym (rw (t, n, s) at there.1) ∙ same);
 }

@@ -1,24 +1,21 @@
 -- An accepted packet, taken apart and written out again.
 use Prim.Native.Nat.{ℕ, zero, suc, ◌+◌, ◌*◌, ◌-◌, ◌/◌, ◌%◌, ◌<◌, ◌≤◌}
 use mathlib.Core.Path.{◌≡◌, refl, ap, sym, ◌∙◌}
-use mathlib.Core.Bool.{Bool, true, false, cond, ◌&&◌}
+use mathlib.Core.Bool.{Bool, true, false, cond}
 use mathlib.Core.List.{List, [], ◌∷◌, ◌++◌, append_assoc}
 use native.Mathlib.Omega.{arith}
 use native.Mathlib.Nat.{div-div-eq-div-mul, div-add-mod', div-one}
 use lib.Dec.{eqb}
-use lib.ListN.{length, take, drop, replicate, length-append, length-replicate, length-take, length-drop}
+use lib.ListN.{length, take, drop, replicate, length-append, length-take, length-drop}
 use lib.Seq.{get_or-drop}
 use borrow.Author.Tests.{eqb-true, eqb-false}
 use Rattle.base.specs.Bytes.{byte_at, bytes8, bytes16, bytes32, bits, placed, bit, is_set, Bytes}
-use Rattle.base.proofs.Truths.{and_left}
 use Rattle.base.proofs.Numbers.{cut, byte_back, number16_back, number32_back, number16_small}
 use Rattle.packet.specs.Packet.{csrc_count, payload_type, sequence, timestamp, ssrc, extension_at, word_count, words_at, payload_at, payload, field, ptt_type, squ, ptt_id, pm, ptts, sct, x, after_field}
-use Rattle.packet.specs.Items.{Item, Found, found, broken, some_item, items_in, items_allowed, run_allowed, items_of, listed, all_zero, all_allowed, no_type_twice}
+use Rattle.packet.specs.Items.{Item, Found, some_item, items_in, items_allowed, run_allowed, items_of, listed, all_zero}
 use Rattle.reader.specs.Reading.{message_of, items_here}
 use Rattle.writer.specs.Writing.{field_of, item_bytes}
 use Rattle.packet.specs.declared.message.Direction.{Direction}
-use Rattle.packet.specs.declared.message.Direction.TheVariants.{Tx, Rx}
-use Rattle.packet.specs.declared.message.Message.{Message}
 use Rattle.demands.specs.Inversion.{laid, csrc_words, Inversion}
 use Rattle.reader.proofs.Passed.{Passed, accepted_passed, FieldPassed, field_passed}
 use Rattle.demands.proofs.Demand2.Items.{zeros_are, items_back}
@@ -27,27 +24,15 @@ use Rattle.demands.proofs.Demand2.Items.{zeros_are, items_back}
 
 -- a bit that is not set is 0
 bit_of : (n : ℕ) → bit (is_set (n % 2)) ≡ n % 2
-bit_of n = by_test (eqb (n % 2) 1) refl
-  where
-    by_test : (t : Bool) → eqb (n % 2) 1 ≡ t → cond t 1 0 ≡ n % 2
-    by_test true e = sym (eqb-true (n % 2) 1 e)
-    by_test false e = omega (arith, eqb-false (n % 2) 1 e)
+bit_of n = grind arith
 
 -- a quotient, by the next one
 step : (n a b : ℕ) → n / a ≡ n / (a * b) * b + n / a % b
 step n a b = sym (div-add-mod' (n / a) b) ∙ ap (λ (q : ℕ). q * b + n / a % b) (div-div-eq-div-mul n a b)
 
-version_bits : (b : ℕ) → b < 256 → b / 64 % 4 ≡ 2 → b / 64 ≡ 2
-version_bits b h v = omega arith
-
 first_byte : (b : ℕ) → b < 256 → bits 8 0 2 b ≡ 2 → bits 8 2 1 b ≡ 0 → bits 8 3 1 b ≡ 1
     → b ≡ placed 8 0 2 2 + placed 8 3 1 1 + placed 8 4 4 (bits 8 4 4 b)
-first_byte b h v p e =
-    joined b (b / 16) (b / 32) (b / 64) (b % 16) (b / 16 % 2) (b / 32 % 2) (sym (div-add-mod' b 16)) (step b 16 2) (step b 32 2) (version_bits b h v) e p
-    ∙ ap (λ (n : ℕ). 144 + n % 16 * 1) (sym (div-one b))
-  where
-    joined : (b q16 q32 q64 c e p : ℕ) → b ≡ q16 * 16 + c → q16 ≡ q32 * 2 + e → q32 ≡ q64 * 2 + p → q64 ≡ 2 → e ≡ 1 → p ≡ 0 → b ≡ 144 + c * 1
-    joined b q16 q32 q64 c e p h i j k l m = omega arith
+first_byte b h v p e = grind arith
 
 second_byte : (b : ℕ) → b < 256 → bits 8 0 1 b ≡ 0 → b ≡ bits 8 1 7 b
 second_byte b h m = omega arith
@@ -69,8 +54,7 @@ module _ (f : ℕ) (small : f < 65536) where
 
 -- the reserved bits that both directions want 0
 none_reserved : (d : Direction) (f : ℕ) → FieldPassed d f → f / 2 % 4 ≡ 0
-none_reserved Tx f h = omega (arith, h.unreserved)
-none_reserved Rx f h = h.unreserved
+none_reserved d f h = grind arith
 
 pub take_bytes : (n : ℕ) (l : List ℕ) → Bytes l → Bytes (take n l)
 take_bytes zero l h i = omega arith
@@ -87,15 +71,10 @@ module _ (d : Direction) (f : ℕ) (bs : List ℕ) (small : Bytes bs) where
   abbrev is : List Item
   is = items_of (x f) bs
 
-  not_broken : run_allowed d broken ≡ true → ⊥
-  unfolding run_allowed
-  not_broken e = let z : ◌≡◌ {A = ℕ} 0 1 = cc in omega arith
-
   run_back : (g : Found) → items_in bs ≡ g → run_allowed d g ≡ true
       → (bs ≡ item_bytes (listed g) ++ replicate (length bs - length (item_bytes (listed g))) 0) × (some_item (listed g) ≡ true)
   unfolding run_allowed
-  run_back (found js) e h = (items_back bs js small e, and_left (some_item js) (all_allowed d js) (and_left (some_item js && all_allowed d js) (no_type_twice js) h))
-  run_back broken e h = absurd (not_broken h)
+  run_back g e h = grind (arith, items_back)
 
   x_one : eqb (x f) 0 ≡ false → x f ≡ 1
   x_one e = omega (arith, eqb-false (x f) 0 e)
@@ -142,10 +121,7 @@ module _ (d : Direction) (ext : ℕ) (p : List ℕ) (small : Bytes p) (h : Passe
 
   -- the words hold the items
   pub room_here : 2 + length (item_bytes (items_here p)) ≤ 4 * word_count p
-  room_here =
-      let both : length (after_field p) ≡ length (item_bytes (items_here p)) + (length (after_field p) - length (item_bytes (items_here p))) =
-      ap length here.0 ∙ (simp (length-append, length-replicate)) in
-      omega (arith, words_long, h.some_word)
+  room_here = grind (arith, here, length-append, words_long)
 
   field_back : field p ≡ field_of (message_of p) (items_here p)
   unfolding message_of
@@ -186,9 +162,7 @@ module _ (d : Direction) (ext : ℕ) (p : List ℕ) (small : Bytes p) (h : Passe
 
   csrc_back : take (4 * csrc_count p) (drop 12 p) ≡ csrc_words p
   unfolding csrc_words
-  csrc_back =
-      let n : 4 * csrc_count p ≡ extension_at p - 12 = omega arith in
-      ap (λ (k : ℕ). take k (drop 12 p)) n
+  csrc_back = grind arith
 
   first_back : byte_at p 0 ≡ placed 8 0 2 2 + placed 8 3 1 1 + placed 8 4 4 (length (csrc_words p) / 4)
   first_back = first_byte (byte_at p 0) (small 0) h.version_two h.no_padding h.extended ∙ ap (λ (n : ℕ). 144 + n * 1) (sym csrc_count_lem)
@@ -212,7 +186,4 @@ module _ (d : Direction) (ext : ℕ) (p : List ℕ) (small : Bytes p) (h : Passe
       (item_bytes (items_here p)) (replicate (4 * word_count p - (2 + length (item_bytes (items_here p)))) 0) (payload p)
 
 pub inversion : Inversion
-inversion d ext p m small e =
-    let known = accepted_passed d ext p m e in
-    laid_out d ext p small known.0
-    ∙ ap (λ (n : Message). laid (csrc_words p) (payload_type p) ext (word_count p) n (items_here p) (payload p)) known.1
+inversion d ext p m small e = grind (arith, accepted_passed, laid_out)

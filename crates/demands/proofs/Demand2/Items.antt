@@ -52,8 +52,7 @@ module _ (b : ℕ) (bs : List ℕ) (small : b < 256) where
 
   by_found : (f : Found) (is : List Item) → items_behind (item_length b) bs ≡ f → behind item f ≡ found is
       → ((js : List Item) → items_behind (item_length b) bs ≡ found js → Back (item_length b) bs js) → Back 0 (b ∷ bs) is
-  by_found (found js) is q e ih = subst (Back 0 (b ∷ bs)) (found_same (item ∷ js) is e) (in_front_lem js q (ih js q))
-  by_found broken is q e ih = absurd (not_found is e)
+  by_found f is q e ih = grind (arith, in_front_lem)
 
   -- a zero byte where an item would begin
   by_end : (t : Bool) → all_zero bs ≡ t → (is : List Item) → b ≡ 0 → cond t (found []) broken ≡ found is → Back 0 (b ∷ bs) is

@@ -30,8 +30,7 @@ zeros (suc n) = zeros n
 
 zeros_hold_none : (n : ℕ) → items_in (replicate n 0) ≡ found []
 unfolding items_behind
-zeros_hold_none zero = refl
-zeros_hold_none (suc n) = simp (zeros n)
+zeros_hold_none n = grind (arith, zeros)
 
 -- a whole value is stepped over
 over_value : (v bs : List ℕ) → items_behind (length v) (v ++ bs) ≡ items_in bs
@@ -43,10 +42,7 @@ over_value (b ∷ v) bs = over_value v bs
 first_found : (head : ℕ) (v bs : List ℕ) → eqb head 0 ≡ false → item_length head ≡ length v
     → items_in (head ∷ (v ++ bs)) ≡ behind (record { type = item_type head; value = v }) (items_in bs)
 unfolding items_behind
-first_found head v bs a l =
-    simp (a, l)
-    (ap (λ (w : List ℕ). behind (record { type = item_type head; value = w }) (items_behind (length v) (v ++ bs))) (take_at v bs (length v) refl)
-    ∙ ap (behind (record { type = item_type head; value = v })) (over_value v bs))
+first_found head v bs a l = grind (arith, over_value, take_at)
 
 pub items_back : (is : List Item) (n : ℕ) → AllWrite is → items_in (item_bytes is ++ replicate n 0) ≡ found is
 unfolding item_bytes
@@ -63,11 +59,9 @@ items_back (i ∷ is) n w =
 -- X says whether there is an item
 pub list_back : (is : List Item) (n : ℕ) → AllWrite is → items_of (bit (some_item is)) (item_bytes is ++ replicate n 0) ≡ is
 unfolding items_of
-list_back [] n w = refl
-list_back (i ∷ is) n w = simp (items_back (i ∷ is) n w)
+list_back is n w = grind (arith, items_back)
 
 pub allowed_back : (d : Direction) (is : List Item) (n : ℕ) → AllWrite is
     → items_allowed d (bit (some_item is)) (item_bytes is ++ replicate n 0) ≡ all_allowed d is && no_type_twice is
 unfolding items_allowed run_allowed item_bytes all_allowed no_type_twice
-allowed_back d [] n w = zeros n
-allowed_back d (i ∷ is) n w = simp (items_back (i ∷ is) n w)
+allowed_back d is n w = grind (arith, items_back, zeros)

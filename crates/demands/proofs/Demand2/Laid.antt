@@ -1,22 +1,20 @@
 -- A packet that is laid out of parts that may stand is read as those parts: Inversion, the other way.
 use Prim.Native.Nat.{ℕ, ◌+◌, ◌*◌, ◌-◌, ◌/◌, ◌<◌, ◌≤◌}
-use mathlib.Core.Path.{◌≡◌, refl, ap, ◌∙◌, subst}
+use mathlib.Core.Path.{◌≡◌, ap, ◌∙◌, subst}
 use mathlib.Core.Bool.{Bool, true, false, ◌&&◌, ◌||◌}
 use mathlib.Core.List.{List, ◌++◌, append_assoc}
 use native.Mathlib.Omega.{arith}
 use lib.Dec.{eqb}
-use borrow.Author.Tests.{le-leb, eq-eqb}
 use lib.ListN.{length, replicate, length-append, length-replicate}
+use Rattle.std.specs.Prelude.{None}
 use Rattle.base.specs.Bytes.{bytes16}
 use Rattle.packet.specs.Packet.{x, audio_type, r2s_type, ptt_allowed, field_allowed, payload_allowed, payload}
 use Rattle.packet.specs.Items.{Item, kept, all_allowed, no_type_twice, items_allowed, items_of}
-use Rattle.packet.specs.Refusals.{Case, accepted, judged}
+use Rattle.packet.specs.Refusals.{accepted}
 use Rattle.reader.specs.Reading.{message_of, items_here, read, reader_refusals}
 use Rattle.writer.specs.Writing.{item_bytes, field_of}
 use Rattle.packet.specs.declared.message.Direction.{Direction}
 use Rattle.packet.specs.declared.message.Direction.TheVariants.{Tx, Rx}
-use Rattle.packet.specs.declared.message.SqiItem.TheVariants as sqi
-use Rattle.packet.specs.declared.message.ClimaxItem.TheVariants as climax
 use Rattle.packet.specs.declared.message.Message.{Message}
 use Rattle.demands.specs.Inversion.{laid, RoomFor}
 use Rattle.demands.specs.RoundTrip.{Narrow}
@@ -24,16 +22,15 @@ use Rattle.demands.specs.LaidOut.{SaidInField}
 use Rattle.demands.proofs.Demand2.ItemsBack.{AllWrite, list_back, allowed_back}
 use Rattle.demands.proofs.Demand2.Parts.{heads, HasParts, composed, has_parts}
 use Rattle.demands.proofs.Demand2.ReadBack.{cases_left, cases_are, message_made}
-use Rattle.demands.proofs.Demand2.Written.{bit_set, SaysOf, field_written, field_by_type}
+use Rattle.demands.proofs.Demand2.Written.{SaysOf, field_written, field_by_type}
 
 -- a message of a direction: what its packets cannot say is off or absent
 abbrev pub Says : Direction → Message → Type 0
-Says Tx m = (m.squ ≡ false) × (m.sct ≡ false) × (m.items.sqi ≡ sqi.Absent)
-Says Rx m = m.items.climax ≡ climax.Absent
+Says Tx m = (m.squ ≡ false) × (m.sct ≡ false) × (m.items.sqi ≡ None)
+Says Rx m = m.items.climax ≡ None
 
 pub said_in_field : (d : Direction) (m : Message) → Says d m → SaidInField d m
-said_in_field Tx m s = (s.0, s.1)
-said_in_field Rx m s = tt
+said_in_field d m s = grind arith
 
 -- parts that fit their bytes
 pub record Fit (csrc : List ℕ) (kind ext words : ℕ) (m : Message) (is : List Item) : Type 0 where
@@ -89,9 +86,7 @@ module _ (csrc : List ℕ) (kind ext words : ℕ) (m : Message) (is : List Item)
   sound_back = parts.sound_is
 
   pub message_back : kept is ≡ m.items → message_of p ≡ m
-  message_back keeps =
-      message_made Tx p _ _ _ _ _ _ _ _ _ _ parts
-      ∙ simp (says.ptt_is, says.squ_is, says.id_is, says.pm_is, says.ptts_is, says.sct_is, bit_set, items_back, keeps)
+  message_back keeps = grind (arith, items_back, message_made, parts, says)
 
   items_allowed_lem : (d : Direction) → items_allowed d (x (field_of m is)) inner ≡ all_allowed d is && no_type_twice is
   items_allowed_lem d = simp says.x_is (allowed_back d is zeros h.writes)
@@ -109,7 +104,4 @@ module _ (csrc : List ℕ) (kind ext words : ℕ) (m : Message) (is : List Item)
   pub read_back : (d : Direction) → m.ptt ≤ 5 → SaidInField d m → all_allowed d is ≡ true → no_type_twice is ≡ true → kept is ≡ m.items
       → (eqb kind audio_type || eqb kind r2s_type) ≡ true → payload_allowed kind (length sound) ≡ true → read d ext p ≡ accepted m
   unfolding read
-  read_back d real s a t keeps known fine =
-      ap (λ (cs : List Case). judged cs (message_of p)) (cases d ext)
-      ∙ (simp (known, eq-eqb ext ext refl, field_allowed_lem d s, le-leb m.ptt 5 real, a, t, fine))
-      ∙ ap accepted (message_back keeps)
+  read_back d real s a t keeps known fine = grind (arith, cases, field_allowed_lem, message_back)

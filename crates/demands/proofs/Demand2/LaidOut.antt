@@ -1,5 +1,5 @@
 -- What is laid out of parts that may stand is accepted, and what is accepted is laid out of its own parts, which may stand.
-use Prim.Native.Nat.{ℕ, ◌<◌}
+use Prim.Native.Nat.{ℕ}
 use mathlib.Core.Path.{◌≡◌, refl, ap, sym, subst, ◌∙◌}
 use mathlib.Core.Bool.{Bool, true, false, cond, not, ◌||◌}
 use mathlib.Core.List.{List, [], ◌∷◌}
@@ -12,12 +12,12 @@ use Rattle.base.proofs.Truths.{and_left, and_right, or_left, or_right}
 use Rattle.packet.specs.Packet.{audio_type, r2s_type, audio_length, csrc_count, payload_type, word_count, payload, payload_allowed}
 use Rattle.packet.specs.Items.{Item, item_allowed, all_allowed, has_type, no_type_twice}
 use Rattle.packet.specs.Refusals.{accepted, mapped}
-use Rattle.reader.specs.Reading.{message_of, items_here, read, as_tx, as_rx, read_tx, read_rx}
+use Rattle.reader.specs.Reading.{message_of, items_here, read, read_tx, read_rx}
 use Rattle.reader.proofs.Passed.{Passed, accepted_passed}
-use Rattle.writer.specs.Writing.{from_tx, from_rx}
 use Rattle.packet.specs.declared.message.Direction.{Direction}
 use Rattle.packet.specs.declared.message.Direction.TheVariants.{Tx, Rx}
 use Rattle.packet.specs.declared.message.Message.{Message}
+use Rattle.packet.specs.Messages.{as_tx, as_rx, from_tx, from_rx}
 use Rattle.demands.specs.Inversion.{laid, csrc_words}
 use Rattle.demands.specs.LaidOut.{Carries, r2s, ten_ms, twenty_ms, thirty_ms, Stands, a_quality, a_delay, main, standby, stepped_over, AllStand, NoneOf, EachOnce, Keeps, MayStand, LaidFrom, LaidOut}
 use Rattle.demands.proofs.Demand2.Inversion.{laid_out, csrc_long, room_here}
@@ -37,12 +37,6 @@ kind_known _ _ r2s = refl
 kind_known _ _ ten_ms = refl
 kind_known _ _ twenty_ms = refl
 kind_known _ _ thirty_ms = refl
-
-kind_narrow : (k n : ℕ) → Carries k n → k < 128
-kind_narrow _ _ r2s = omega arith
-kind_narrow _ _ ten_ms = omega arith
-kind_narrow _ _ twenty_ms = omega arith
-kind_narrow _ _ thirty_ms = omega arith
 
 pub payload_fits : (k n : ℕ) → Carries k n → payload_allowed k n ≡ true
 unfolding payload_allowed
@@ -107,17 +101,7 @@ each_once (i ∷ is) e =
 
 module _ (d : Direction) (csrc : List ℕ) (kind ext words : ℕ) (m : Message) (is : List Item) (sound : List ℕ) (h : MayStand d csrc kind ext words m is sound) where
   fit : Fit csrc kind ext words m is
-  fit =
-      record {
-        whole = omega (arith, h.csrc_words.long);
-        few = omega (arith, h.csrc_words.long, h.csrc_words.count_most);
-        kind_narrow = kind_narrow kind (length sound) h.carries;
-        narrow = h.narrow;
-        ptt = omega (arith, h.ptt);
-        id = omega (arith, h.id);
-        writes = all_write d is h.items_stand;
-        room = (omega (arith, h.fewest), omega (arith, h.words_most));
-      }
+  fit = grind (arith, all_write)
 
   reads : read d ext (laid csrc kind ext words m is sound) ≡ accepted m
   reads =
@@ -153,16 +137,7 @@ module _ (d : Direction) (ext : ℕ) (p : List ℕ) (small : Bytes p) (h : Passe
       }
 
   from_parts : LaidFrom d ext p (message_of p)
-  from_parts =
-      record {
-        csrc = csrc_words p;
-        kind = payload_type p;
-        words = word_count p;
-        items = items_here p;
-        sound = payload p;
-        may_stand = own_parts;
-        is_laid = laid_out d ext p small h;
-      }
+  from_parts = grind (arith, laid_out, own_parts)
 
 -- ---- both
 
@@ -170,9 +145,7 @@ if_laid : (d : Direction) (ext : ℕ) (p : List ℕ) (m : Message) → LaidFrom 
 if_laid d ext p m l = ap (read d ext) l.is_laid ∙ reads d l.csrc l.kind ext l.words m l.items l.sound l.may_stand
 
 only_if_laid : (d : Direction) (ext : ℕ) (p : List ℕ) (m : Message) → Bytes p → read d ext p ≡ accepted m → LaidFrom d ext p m
-only_if_laid d ext p m small e =
-    let known = accepted_passed d ext p m e in
-    subst (LaidFrom d ext p) known.1 (from_parts d ext p small known.0)
+only_if_laid d ext p m small e = grind (arith, accepted_passed, from_parts)
 
 pub laid_from_parts : LaidOut
 unfolding read_tx read_rx

@@ -1,8 +1,7 @@
 -- Numbers written into bytes and bits, and read from them.
-use Prim.Native.Nat.{ℕ, ◌+◌, ◌*◌, ◌/◌, ◌%◌, ◌<◌, ◌≤◌}
+use Prim.Native.Nat.{ℕ, ◌+◌, ◌*◌, ◌/◌, ◌%◌, ◌<◌}
 use mathlib.Core.Path.{◌≡◌}
 use native.Mathlib.Omega.{arith}
-use Rattle.base.specs.Bytes.{placed}
 use Rattle.packet.specs.Packet.{ptt_type, squ, ptt_id, pm, ptts, sct, x, reserved}
 use Rattle.packet.specs.declared.message.Direction.TheVariants.{Tx, Rx}
 
@@ -25,11 +24,6 @@ pub record FieldSays (f ptt squelch id muted summed several items : ℕ) : Type 
   pub x_is : x f ≡ items
   pub tx_reserved : reserved Tx f ≡ 4 * several
   pub rx_reserved : reserved Rx f ≡ 0
-
-pub field_says : (ptt squ id pm ptts sct x : ℕ) → ptt ≤ 7 → squ ≤ 1 → id ≤ 63 → pm ≤ 1 → ptts ≤ 1 → sct ≤ 1 → x ≤ 1
-    → FieldSays (placed 16 0 3 ptt + placed 16 3 1 squ + placed 16 4 6 id + placed 16 10 1 pm + placed 16 11 1 ptts + placed 16 12 1 sct + placed 16 15 1 x)
-    ptt squ id pm ptts sct x
-field_says ptt squ id pm ptts sct x hptt hsqu hid hpm hptts hsct hx = omega arith
 
 -- the bits of a field, each by its byte
 pub record FieldBits (f high low : ℕ) : Type 0 where

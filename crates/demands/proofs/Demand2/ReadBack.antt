@@ -1,19 +1,17 @@
 -- A packet whose parts are known is read: which cases of refusal are left, and that the message is made of those parts.
-use Prim.Native.Nat.{ℕ, ◌+◌, ◌*◌, ◌≤◌}
-use mathlib.Core.Path.{◌≡◌, refl, ap, ◌∙◌}
+use Prim.Native.Nat.{ℕ, ◌≤◌}
+use mathlib.Core.Path.{◌≡◌}
 use mathlib.Core.Bool.{Bool, false, not, ◌||◌}
 use mathlib.Core.List.{List, [], ◌∷◌}
 use native.Mathlib.Omega.{arith}
 use lib.ListN.{length}
-use lib.Dec.{ltb, eqb}
-use borrow.Author.Tests.{le-ltb, ne_eqb}
+use lib.Dec.{eqb}
 use Rattle.base.specs.Bytes.{is_set}
-use Rattle.packet.specs.Packet.{x, audio_type, r2s_type, field_allowed, payload_allowed, after_field, ptt_type, squ, ptt_id, pm, ptts, sct}
+use Rattle.packet.specs.Packet.{x, audio_type, r2s_type, field_allowed, payload_allowed, ptt_type, squ, ptt_id, pm, ptts, sct}
 use Rattle.packet.specs.Items.{items_allowed, items_of, kept}
 use Rattle.packet.specs.Refusals.{Case, ◌if◌}
 use Rattle.reader.specs.Reading.{reader_refusals, message_of, items_here}
 use Rattle.packet.specs.declared.message.Direction.{Direction}
-use Rattle.demands.proofs.Demand2.Chain.{◌also◌}
 use Rattle.demands.proofs.Demand2.Parts.{HasParts}
 
 -- the refusals that are left: those of the kind, the extension type, the field, the items and the payload
@@ -37,20 +35,7 @@ module _ (d : Direction) (p : List ℕ) (c kind seq ts source ext w f : ℕ) (in
   pub cases_are : (asked : ℕ) → 1 ≤ w → w ≤ 15
       → reader_refusals d asked p ≡ cases_left asked kind ext (field_allowed d f) (items_allowed d (x f) inner) (payload_allowed kind (length sound))
   unfolding reader_refusals
-  cases_are asked w1 w15 =
-      le-ltb (length p) 12 (omega arith)
-      also (simp h.version_is)
-      also (simp (h.padding_is, h.marker_is))
-      also (simp h.extension_is)
-      also (simp h.kind_is)
-      also (simp h.csrc_is (le-ltb (length p) (12 + 4 * c + 4) (omega arith)))
-      also (ap (λ (n : ℕ). not (eqb n asked)) h.ext_is)
-      also (ap (λ (n : ℕ). eqb n 0 || ltb 15 n) h.words_is ∙ simp (ne_eqb w 0 (omega arith), le-ltb 15 w w15))
-      also (rw (h.words_is, h.csrc_is) (le-ltb (length p) (12 + 4 * c + 4 + 4 * w) (omega arith)))
-      also (ap (λ (n : ℕ). not (field_allowed d n)) h.field_is)
-      also (ap (λ (n : ℕ). not (items_allowed d (x n) (after_field p))) h.field_is ∙ simp h.inner_is)
-      also (simp (h.kind_is, h.sound_is))
-      also refl
+  cases_are asked w1 w15 = grind arith
 
   pub message_made : message_of p
       ≡ record {

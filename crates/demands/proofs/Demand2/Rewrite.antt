@@ -1,4 +1,5 @@
 -- An accepted packet is written again with the same bytes exactly if it is plain and has no type 4 item.
+use native.Mathlib.Omega.{arith}
 use Prim.Native.Nat.{ℕ, ◌≤◌}
 use mathlib.Core.Path.{◌≡◌, refl, ap, sym, subst, ◌∙◌}
 use mathlib.Core.List.{List, [], ◌++◌}
@@ -6,16 +7,16 @@ use lib.ListN.{length, drop}
 use borrow.Author.Tests.{le-ltb}
 use Rattle.base.specs.Bytes.{Bytes}
 use Rattle.packet.specs.Packet.{word_count, payload_type, payload}
-use Rattle.packet.specs.Refusals.{Answer, accepted, refused, mapped}
-use Rattle.reader.specs.Reading.{message_of, items_here, read, as_tx, as_rx, read_tx, read_rx}
-use Rattle.writer.specs.Writing.{from_tx, from_rx, fewest_words, kind_for, encode, writer_refusals, write, buffered}
+use Rattle.packet.specs.Refusals.{Answer, accepted, mapped}
+use Rattle.reader.specs.Reading.{message_of, items_here, read, read_tx, read_rx}
+use Rattle.writer.specs.Writing.{fewest_words, kind_for, encode, writer_refusals, write, buffered}
 use Rattle.packet.specs.declared.message.Direction.{Direction}
 use Rattle.packet.specs.declared.message.Direction.TheVariants.{Tx, Rx}
 use Rattle.packet.specs.declared.message.Message.{Message}
 use Rattle.demands.specs.Plain.{Plain}
 use Rattle.demands.specs.Inversion.{laid, csrc_words}
 use Rattle.demands.specs.Rewrite.{WithoutDdc, Rewritten, Rewrite, RewriteTx, RewriteRx}
-use Rattle.packet.proofs.Judged.{never}
+use Rattle.packet.specs.Messages.{as_tx, as_rx, from_tx, from_rx}
 use Rattle.reader.proofs.Passed.{Passed, accepted_passed}
 use Rattle.demands.proofs.Demand2.Inversion.{laid_out}
 use Rattle.demands.proofs.Demand2.AllowedItems.{rising_are_kept}
@@ -43,11 +44,7 @@ module _ (d : Direction) (ext : ℕ) (p : List ℕ) (small : Bytes p) (h : Passe
       sym (laid_out d ext p small h ∙ chosen ∙ laid_plain ext m (payload p))
 
   plain_if_same : encode ext m (payload p) ≡ p → Plain p × WithoutDdc p
-  plain_if_same e =
-      let fits = numbers_fit d ext p small h in
-      let fine = message_writable d ext p small h in
-      subst (λ (q : List ℕ). Plain q × WithoutDdc q) e
-      (plain_written ext m (payload p) fits fine, never_written ext m (payload p) fits fine)
+  plain_if_same e = grind (arith, message_writable, never_written, numbers_fit, plain_written)
 
   stands_again : Plain p → WithoutDdc p → (buffer : List ℕ) → length p ≤ length buffer
       → (write ext m (payload p) (length buffer) ≡ accepted (length p)) × (buffered ext m (payload p) buffer ≡ p ++ drop (length p) buffer)
@@ -70,8 +67,7 @@ rewrite d ext p m small e =
 
 -- a value made from a value was made from an accepted one
 pub from_mapped : {A B : Type 0} (f : A → B) (a : Answer A) (b : B) → mapped f a ≡ accepted b → (m : A) × (a ≡ accepted m) × (f m ≡ b)
-from_mapped f (accepted m) b e = (m, refl, cc)
-from_mapped f (refused n c) b e = absurd (never b n c (sym e))
+from_mapped f a b e = grind arith
 
 pub rewrite_tx : RewriteTx
 unfolding read_tx

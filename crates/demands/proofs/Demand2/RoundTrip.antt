@@ -8,8 +8,8 @@ use lib.ListN.{length}
 use Rattle.packet.specs.Packet.{csrc_count, word_count, payload}
 use Rattle.packet.specs.Items.{ddc_type, all_allowed, has_type}
 use Rattle.packet.specs.Refusals.{accepted, mapped}
-use Rattle.reader.specs.Reading.{items_here, read, as_tx, as_rx, read_tx, read_rx}
-use Rattle.writer.specs.Writing.{from_tx, from_rx, fewest_words, words_of, kind_for, head_of, encode, writable}
+use Rattle.reader.specs.Reading.{items_here, read, read_tx, read_rx}
+use Rattle.writer.specs.Writing.{fewest_words, words_of, kind_for, head_of, encode, writable}
 use Rattle.packet.specs.declared.message.Direction.{Direction}
 use Rattle.packet.specs.declared.message.Direction.TheVariants.{Tx, Rx}
 use Rattle.packet.specs.declared.message.Message.{Message}
@@ -17,12 +17,13 @@ use Rattle.demands.specs.Inversion.{laid}
 use Rattle.demands.specs.RoundTrip.{Narrow, RoundTripTx, RoundTripRx, PlainWritten, ReportsReadBack}
 use Rattle.demands.specs.SteppedOver.{NeverWritten}
 use Rattle.packet.proofs.Judged.{meets_none}
+use Rattle.packet.specs.Messages.{as_tx, as_rx, from_tx, from_rx}
 use Rattle.reporting.specs.Reporting.{report_of, report_refusals, report_said, report_bytes}
 use Rattle.reporting.proofs.Accepted.{report_accepted}
 use Rattle.reporting.proofs.Told.{report_writable}
 use Rattle.writer.proofs.Words.{few_words}
-use Rattle.demands.proofs.Demand2.RisingItems.{sqi_fits_lem, rising_writes, rising_kept, rising_once, rising_rises, no_ddc, rising_in_tx, rising_in_rx}
-use Rattle.demands.proofs.Demand2.Written.{Writable, writable_is, kind_allowed, kind_narrow, sound_allowed, items_for}
+use Rattle.demands.proofs.Demand2.RisingItems.{rising_writes, rising_kept, rising_once, rising_rises, no_ddc, rising_in_tx, rising_in_rx}
+use Rattle.demands.proofs.Demand2.Written.{Writable, writable_is, kind_allowed, sound_allowed, items_for}
 use Rattle.demands.proofs.Demand2.Laid.{Says, said_in_field, Fit}
 use Rattle.demands.proofs.Demand2.Laid as of-laid
 
@@ -35,17 +36,7 @@ laid_plain ext m sound = refl
 -- which fit their bytes, whether or not the writer takes them
 pub fit_plain : (ext : ℕ) (m : Message) (sound : List ℕ) → Narrow ext m → m.ptt ≤ 7 → m.id ≤ 63
     → Fit [] (kind_for (length sound)) ext (fewest_words (items_for m)) m (items_for m)
-fit_plain ext m sound narrow ptt id =
-    record {
-      whole = refl;
-      few = omega arith;
-      kind_narrow = kind_narrow (length sound);
-      narrow = narrow;
-      ptt = ptt;
-      id = id;
-      writes = rising_writes m.items;
-      room = (omega arith, omega (arith, few_words m.items));
-    }
+fit_plain ext m sound narrow ptt id = grind (arith, few_words, rising_writes)
 
 module _ (ext : ℕ) (m : Message) (sound : List ℕ) (narrow : Narrow ext m) (fine : writable m (length sound) ≡ true) where
   passed : Writable m (length sound)
@@ -55,8 +46,7 @@ module _ (ext : ℕ) (m : Message) (sound : List ℕ) (narrow : Narrow ext m) (f
   fit = fit_plain ext m sound narrow (omega (arith, passed.ptt)) passed.id
 
   types_allowed : (d : Direction) → Says d m → all_allowed d (items_for m) ≡ true
-  types_allowed Tx s = rising_in_tx m.items s.2 passed.climax
-  types_allowed Rx s = rising_in_rx m.items s (sqi_fits_lem m.items.sqi passed.sqi) ∙ passed.sqi
+  types_allowed d s = grind (arith, passed, rising_in_rx, rising_in_tx)
 
   pub read_back : (d : Direction) → Says d m → read d ext (encode ext m sound) ≡ accepted m
   read_back d s =

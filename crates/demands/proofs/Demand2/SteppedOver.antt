@@ -13,7 +13,7 @@ use Rattle.packet.specs.Packet.{payload_type, extension_type, word_count, payloa
 use Rattle.packet.specs.Items.{Item, ddc_type, item_allowed, all_allowed, has_type, no_type_twice, sqi_among, climax_among, side_among, kept}
 use Rattle.packet.specs.Refusals.{Case, Answer, accepted, judged}
 use Rattle.packet.proofs.Judged.{judged_both}
-use Rattle.reader.specs.Reading.{message_of, items_here, read, reader_refusals, as_tx}
+use Rattle.reader.specs.Reading.{message_of, items_here, read, reader_refusals}
 use Rattle.reader.proofs.Passed.{Passed, accepted_passed}
 use Rattle.writer.specs.Writing.{item_bytes, field_of}
 use Rattle.record.specs.Record.{seat_of}
@@ -24,6 +24,7 @@ use Rattle.packet.specs.declared.message.Direction.{Direction}
 use Rattle.packet.specs.declared.message.Direction.TheVariants.{Tx}
 use Rattle.packet.specs.declared.message.Message.{Message}
 use Rattle.packet.specs.declared.message.Items.{Items}
+use Rattle.packet.specs.Messages.{as_tx}
 use Rattle.record.specs.declared.whole.Bench.{Bench}
 use Rattle.hearing.specs.declared.hearing.Hearing.{Hearing}
 use Rattle.demands.specs.Inversion.{laid, RoomFor, csrc_words}

@@ -1,6 +1,6 @@
 -- Which refusal of 1 to 12 a reader answers: each of its tests says the line of the table with that number.
 use Prim.Native.Nat.{ℕ, ◌+◌, ◌*◌, ◌-◌, ◌%◌, ◌≤◌}
-use mathlib.Core.Path.{◌≡◌, refl, ap, sym, subst, ◌∙◌}
+use mathlib.Core.Path.{◌≡◌, refl, ap, sym, ◌∙◌}
 use mathlib.Core.Bool.{Bool, true, false, not, ◌&&◌, ◌||◌, false≢true}
 use mathlib.Core.List.{List, [], ◌∷◌, ◌++◌}
 use mathlib.Core.Logic.{◌⊎◌, inl, inr}
@@ -15,11 +15,12 @@ use Rattle.packet.specs.Items.{Item, some_item, items_allowed, items_of}
 use Rattle.packet.specs.Refusals.{cause_of}
 use Rattle.packet.proofs.Judged.{judged_mapped}
 use Rattle.packet.proofs.InWords.{MetIf, Agree, turned_away}
-use Rattle.reader.specs.Reading.{reader_refusals, message_of, read, read_tx, read_rx, as_tx, as_rx}
-use Rattle.reader.proofs.Passed.{FieldPassed, field_passed, payload_length}
+use Rattle.reader.specs.Reading.{reader_refusals, message_of, read, read_tx, read_rx}
+use Rattle.reader.proofs.Passed.{payload_length}
 use Rattle.writer.specs.Writing.{item_bytes}
 use Rattle.packet.specs.declared.message.Direction.{Direction}
 use Rattle.packet.specs.declared.message.Direction.TheVariants.{Tx, Rx}
+use Rattle.packet.specs.Messages.{as_tx, as_rx}
 use Rattle.demands.specs.LaidOut.{Carries, AllStand, EachOnce}
 use Rattle.demands.specs.Unreadable.{byte, number, head_end, words, words_end, in_bytes, UnderX, zeros_alone, items_first, ItemsFit, Unreadable, ReadersTurnAway}
 use Rattle.demands.specs.Unreadable as line
@@ -32,15 +33,13 @@ use Rattle.demands.proofs.Demand2.LaidOut.{payload_fits, carried, all_allowed_le
 -- ---- a test that is negated, and the statement that it is about
 
 unless : {S : Type 0} (t : Bool) → (t ≡ true → S) → (S → ⊥) → not t ≡ true
-unless true says fails = absurd (fails (says refl))
-unless false says fails = refl
+unless t says fails = grind arith
 
 fails : {S : Type 0} (t : Bool) → (S → t ≡ true) → not t ≡ true → S → ⊥
 fails t said e s = false≢true (sym (not-true t e) ∙ said s)
 
 one_of : (a b : Bool) → (a || b) ≡ true → (a ≡ true) ⊎ (b ≡ true)
-one_of true b e = inl refl
-one_of false b e = inr e
+one_of a b e = grind arith
 
 -- ---- the items
 
@@ -53,9 +52,7 @@ in_bytes_lem (i ∷ is) w =
     rw (head, in_bytes_lem is w.1)
 
 all_allowed_in : (d : Direction) (is : List Item) (n : ℕ) → AllStand d is → EachOnce is → items_allowed d (bit (some_item is)) (in_bytes is ++ replicate n 0) ≡ true
-all_allowed_in d is n stand once =
-    let w = all_write d is stand in
-    rw (← in_bytes_lem is w, allowed_back d is n w, all_allowed_lem d is stand, none_twice is once)
+all_allowed_in d is n stand once = grind (arith, all_allowed_lem, all_write, allowed_back, in_bytes_lem, none_twice)
 
 fit_allowed : (d : Direction) (x : ℕ) (rest : List ℕ) (is : List Item) → UnderX x rest is → AllStand d is → EachOnce is → items_allowed d x rest ≡ true
 unfolding in_bytes
@@ -68,12 +65,7 @@ under_x [] n = zeros_alone n
 under_x (i ∷ is) n = items_first i is n
 
 allowed_fit : (d : Direction) (f : ℕ) (rest : List ℕ) → Bytes rest → items_allowed d (x f) rest ≡ true → UnderX (x f) rest (items_of (x f) rest)
-allowed_fit d f rest small e =
-    let is = items_of (x f) rest in
-    let n : ℕ = length rest - length (item_bytes is) in
-    let (are, some) = items_under_x d f rest small e in
-    let written = are ∙ ap (λ (l : List ℕ). l ++ replicate n 0) (in_bytes_lem is (all_write d is (here_stand d (x f) rest small e))) in
-    subst (λ (t : ℕ). UnderX t rest is) some (subst (λ (l : List ℕ). UnderX (bit (some_item is)) l is) (sym written) (under_x is n))
+allowed_fit d f rest small e = grind (arith, all_write, here_stand, in_bytes_lem, items_under_x, under_x)
 
 module _ (d : Direction) (ext : ℕ) (p : List ℕ) (small : Bytes p) where
   -- ---- where the parts stand
@@ -121,13 +113,7 @@ module _ (d : Direction) (ext : ℕ) (p : List ℕ) (small : Bytes p) where
   -- ---- the items of the packet
 
   fit_here : items_allowed d (x f) (after_field p) ≡ true → ItemsFit d p
-  fit_here e =
-      record {
-        items = items_of (x f) (after_field p);
-        stand = rw (← bits.x_is, ← after_is) (allowed_fit d f (after_field p) after_small e);
-        of_table = here_stand d (x f) (after_field p) after_small e;
-        each_once = each_once _ (here_once d (x f) (after_field p) e);
-      }
+  fit_here e = grind (arith, after_is, after_small, allowed_fit, each_once, here_once, here_stand)
 
   allowed_here : ItemsFit d p → items_allowed d (x f) (after_field p) ≡ true
   allowed_here fit = rw (bits.x_is, after_is) (fit_allowed d _ _ fit.items fit.stand fit.of_table fit.each_once)
@@ -223,17 +209,8 @@ module _ (d : Direction) (ext : ℕ) (p : List ℕ) (small : Bytes p) where
       met Rx true true false is g h k n = line.reserved_in_rx is (λ z. eqb-false (reserved Rx f) 0 k (bits.reserved_rx ∙ z))
       met e true true true is g h k n = absurd (false≢true n)
 
-      broken : (FieldPassed d f → ⊥) → not (field_allowed d f) ≡ true
-      broken = unless (field_allowed d f) (field_passed d f)
-
-      passed_in : {e : Direction} → d ≡ e → FieldPassed d f → FieldPassed e f
-      passed_in is = subst (λ (e : Direction). FieldPassed e f) is
-
       only : OnlyIf 10 (not (field_allowed d f))
-      only _ (line.reserved_type h) = (broken (λ k. omega (arith, bits, k.type_known)), refl)
-      only _ (line.squ_in_tx is h) = (broken (λ k. omega (arith, bits, eqb-true (squ f) 0 (passed_in is k).squ_allowed_lem)), refl)
-      only _ (line.reserved_in_tx is h) = (broken (λ k. h (sym bits.reserved_tx ∙ (passed_in is k).unreserved)), refl)
-      only _ (line.reserved_in_rx is h) = (broken (λ k. h (sym bits.reserved_rx ∙ (passed_in is k).unreserved)), refl)
+      only h e = grind arith
 
   items_line : Line 11 (not (items_allowed d (x f) (after_field p)))
   items_line = record { if_holds = λ e. line.no_items (fails _ allowed_here e); only_if = only }
@@ -261,23 +238,7 @@ module _ (d : Direction) (ext : ℕ) (p : List ℕ) (small : Bytes p) where
 
 -- no line has another number
 pub reader_range : {d : Direction} {ext : ℕ} {p : List ℕ} {number cause : ℕ} → Unreadable d ext p number cause → (1 ≤ number) × (number ≤ 12)
-reader_range (line.under_12 _) = omega arith
-reader_range (line.version _) = omega arith
-reader_range (line.padding _) = omega arith
-reader_range (line.marker _) = omega arith
-reader_range (line.no_extension _) = omega arith
-reader_range (line.payload_type _ _) = omega arith
-reader_range (line.cut_in_head _) = omega arith
-reader_range (line.other_extension _) = omega arith
-reader_range (line.no_word _) = omega arith
-reader_range (line.many_words _) = omega arith
-reader_range (line.cut_in_words _) = omega arith
-reader_range (line.reserved_type _) = omega arith
-reader_range (line.squ_in_tx _ _) = omega arith
-reader_range (line.reserved_in_tx _ _) = omega arith
-reader_range (line.reserved_in_rx _ _) = omega arith
-reader_range (line.no_items _) = omega arith
-reader_range (line.payload_length _) = omega arith
+reader_range h = grind arith
 
 -- ---- the readers
 

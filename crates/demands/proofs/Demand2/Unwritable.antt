@@ -3,25 +3,23 @@ use Prim.Native.Nat.{ℕ, ◌≤◌}
 use mathlib.Core.Path.{◌≡◌, refl, ap, sym, ◌∙◌}
 use mathlib.Core.Bool.{Bool, true, false, not, ◌&&◌, false≢true}
 use mathlib.Core.List.{List, [], ◌∷◌}
-use mathlib.Core.Logic.{◌⊎◌, inl, inr, ◌↔◌}
+use mathlib.Core.Logic.{◌⊎◌, ◌↔◌}
 use native.Mathlib.Omega.{arith}
-use lib.Dec.{ltb}
 use lib.ListN.{length}
-use borrow.Author.Tests.{ltb-true, leb-true, lt-ltb, le-leb, eq-eqb}
-use Rattle.base.proofs.Truths.{and_left, and_right, and_true}
+use borrow.Author.Tests.{le-leb, eq-eqb}
+use Rattle.std.specs.Prelude.{Option}
+use Rattle.base.proofs.Truths.{and_true}
 use Rattle.packet.specs.Packet.{ptt_allowed}
 use Rattle.packet.specs.Items.{all_allowed}
-use Rattle.packet.specs.Refusals.{Case, ◌if◌, Answer, accepted, refused, cause_of, judged, mapped}
-use Rattle.packet.proofs.Judged.{never}
-use Rattle.reader.specs.Reading.{message_of, read, reader_refusals, as_tx, as_rx, read_tx, read_rx}
-use Rattle.writer.specs.Writing.{from_tx, from_rx, kind_for, fewest_words, encode, sqi_writable, climax_writable, audio_writable, writable, writer_refusals, write}
+use Rattle.packet.specs.Refusals.{Case, ◌if◌, Answer, accepted, refused, judged, mapped}
+use Rattle.reader.specs.Reading.{message_of, read, reader_refusals, read_tx, read_rx}
+use Rattle.writer.specs.Writing.{kind_for, fewest_words, encode, sqi_writable, climax_writable, audio_writable, writable, writer_refusals, write}
 use Rattle.packet.specs.declared.message.Direction.{Direction}
 use Rattle.packet.specs.declared.message.Direction.TheVariants as direction
-use Rattle.packet.specs.declared.message.ClimaxItem.{ClimaxItem}
-use Rattle.packet.specs.declared.message.ClimaxItem.TheVariants as climax
 use Rattle.packet.specs.declared.message.Message.{Message}
 use Rattle.packet.specs.declared.message.Tx.{Tx}
 use Rattle.packet.specs.declared.message.Rx.{Rx}
+use Rattle.packet.specs.Messages.{as_tx, as_rx, from_tx, from_rx}
 use Rattle.demands.specs.RoundTrip.{Narrow}
 use Rattle.demands.specs.Unwritable.{sqi_fits, climax_fits, fits_bits, RefusesValue, Unwritable}
 use Rattle.demands.proofs.Demand2.RisingItems.{sqi_fits_lem, rising_once, rising_in_tx, rising_in_rx}
@@ -40,36 +38,16 @@ record Fits (m : Message) : Type 0 where
 
 bits_fit : (m : Message) → fits_bits m ≡ true → Fits m
 unfolding fits_bits
-bits_fit m e =
-    let a = and_left (ltb m.ptt 8 && ltb m.id 64 && sqi_fits m.items.sqi) _ e in
-    let b = and_left (ltb m.ptt 8 && ltb m.id 64) _ a in
-    record {
-      ptt = omega (arith, ltb-true m.ptt 8 (and_left (ltb m.ptt 8) _ b));
-      id = omega (arith, ltb-true m.id 64 (and_right (ltb m.ptt 8) _ b));
-      sqi = and_right (ltb m.ptt 8 && ltb m.id 64) _ a;
-      climax = and_right (ltb m.ptt 8 && ltb m.id 64 && sqi_fits m.items.sqi) _ e;
-    }
+bits_fit m e = grind arith
 
 -- a delay that fits may stand
-delay_writable : (c : ClimaxItem) → climax_fits c ≡ true → climax_writable c ≡ true
-delay_writable climax.Absent e = refl
-delay_writable (climax.Is v) e = le-leb v 127 (omega (arith, ltb-true v 128 e))
-
-delay_fits : (c : ClimaxItem) → climax_writable c ≡ true → climax_fits c ≡ true
-delay_fits climax.Absent e = refl
-delay_fits (climax.Is v) e = lt-ltb v 128 (omega (arith, leb-true v 127 e))
+delay_writable : (c : Option ℕ) → climax_fits c ≡ true → climax_writable c ≡ true
+delay_writable c e = grind arith
 
 -- what is writable fits
 writable_fits : (m : Message) (n : ℕ) → writable m n ≡ true → fits_bits m ≡ true
 unfolding fits_bits
-writable_fits m n e =
-    let fine = writable_is m n e in
-    simp (
-      lt-ltb m.ptt 8 (omega (arith, fine.ptt)),
-      lt-ltb m.id 64 (omega (arith, fine.id)),
-      sqi_fits_lem m.items.sqi fine.sqi,
-      delay_fits m.items.climax fine.climax,
-    )
+writable_fits m n e = grind (arith, sqi_fits_lem, writable_is)
 
 -- ---- what the reader says to the packet that they make
 
@@ -98,8 +76,7 @@ module _ (ext : ℕ) (m : Message) (sound : List ℕ) (narrow : Narrow ext m) (f
 
   -- the items break a rule by the values of SQI alone
   items_by_sqi : (d : Direction) → Says d m → all_allowed d (items_for m) ≡ sqi_writable m.items.sqi
-  items_by_sqi direction.Tx s = rising_in_tx m.items s.2 (delay_writable m.items.climax fit.climax) ∙ sym (ap sqi_writable s.2)
-  items_by_sqi direction.Rx s = rising_in_rx m.items s fit.sqi
+  items_by_sqi d s = grind (arith, fit, rising_in_rx, rising_in_tx)
 
   said : (d : Direction) → Says d m
       → read d ext (encode ext m sound) ≡ judged (value_cases (ptt_allowed m.ptt) (sqi_writable m.items.sqi) (audio_writable n)) (message_of (encode ext m sound))
@@ -142,35 +119,18 @@ says_27 : (ext : ℕ) (m : Message) (sound : List ℕ) (room : ℕ) → writable
 unfolding write writer_refusals
 says_27 ext m sound room e = simp e
 
-not_27 : {A : Type 0} (t : Bool) (a : A) → judged (26 if t ∷ []) a ≡ refused 27 0 → ⊥
-not_27 true a e = let z : ◌≡◌ {A = ℕ} 26 27 = cc in omega arith
-not_27 false a e = never a 27 0 e
-
 unwritable_if_27 : (ext : ℕ) (m : Message) (sound : List ℕ) (room : ℕ) → write ext m sound room ≡ refused 27 0 → writable m (length sound) ≡ false
 unfolding write writer_refusals
-unwritable_if_27 ext m sound room e = by_value (writable m (length sound)) (ltb room (length (encode ext m sound))) (length (encode ext m sound)) e
-  where
-    by_value : (w short : Bool) (long : ℕ) → judged (27 if not w ∷ 26 if short ∷ []) long ≡ refused 27 0 → w ≡ false
-    by_value true short long q = absurd (not_27 short long q)
-    by_value false short long q = refl
+unwritable_if_27 ext m sound room e = grind arith
 
 -- a value that the writer does not take: it does not fit, or the reader refuses
 module _ {A : Type 0} (ext : ℕ) (m : Message) (sound : List ℕ) (answer : Answer A) (a : A) (accepts : writable m (length sound) ≡ true → answer ≡ accepted a)
     (refuses : fits_bits m ≡ true → writable m (length sound) ≡ false → RefusesValue answer) where
   one_of_two : writable m (length sound) ≡ false → (fits_bits m ≡ false) ⊎ RefusesValue answer
-  one_of_two e = by_fit (fits_bits m) refl
-    where
-      by_fit : (f : Bool) → fits_bits m ≡ f → (fits_bits m ≡ false) ⊎ RefusesValue answer
-      by_fit true h = inr (refuses h e)
-      by_fit false h = inl h
+  one_of_two e = grind arith
 
   of_either : (fits_bits m ≡ false) ⊎ RefusesValue answer → writable m (length sound) ≡ false
-  of_either why = by_value (writable m (length sound)) refl why
-    where
-      by_value : (w : Bool) → writable m (length sound) ≡ w → (fits_bits m ≡ false) ⊎ RefusesValue answer → writable m (length sound) ≡ false
-      by_value true h (inl e) = absurd (false≢true (sym e ∙ writable_fits m (length sound) h))
-      by_value true h (inr (k, least, most, e)) = absurd (never a k (cause_of k) (sym (accepts h) ∙ e))
-      by_value false h why = h
+  of_either why = grind (arith, writable_fits)
 
   exactly : (room : ℕ) → (write ext m sound room ≡ refused 27 0) ↔ ((fits_bits m ≡ false) ⊎ RefusesValue answer)
   exactly room = (λ e. one_of_two (unwritable_if_27 ext m sound room e), λ why. says_27 ext m sound room (of_either why))

@@ -12,7 +12,6 @@ use denote.Builtin.{u16}
 use denote.Shadow.{shadow}
 use denote.Array.{each}
 use borrow.Fn.Kinds.{Dens, GoodsP}
-use Rattle.writer.specs.Writing.{from_tx, from_rx}
 use Rattle.record.specs.Record.{no_such_seat, closed_seat, entry_of, seat_of}
 use Rattle.seats.specs.Ticking.{ticked_seat, ticked_bench}
 use Rattle.reporting.specs.Reporting.{report_of}
@@ -25,6 +24,7 @@ use Rattle.demands.specs.RoundTrip.{Narrow}
 use Rattle.writer.proofs as writer
 use Rattle.reporting.proofs as reporting
 use Rattle.sending.proofs as sending
+use Rattle.packet.specs.Messages.{from_tx, from_rx}
 
 -- of every element of an array, and of what stands for one past its end
 each_holds : {A : Type 0} (own : A → List Val → Fml) (P : A → Type 0) → ((v : A) (u : Val) → shadow (own v (u ∷ [])) → P v) → (vs : List A) (us : List Val)

@@ -5,11 +5,12 @@ use mathlib.Core.Bool.{Bool, true, false}
 use mathlib.Core.List.{List}
 use native.Mathlib.Omega.{arith}
 use lib.ListN.{length}
+use Rattle.std.specs.Prelude.{None}
 use Rattle.packet.specs.Refusals.{NoCase, accepted}
-use Rattle.writer.specs.Writing.{from_rx, encode}
-use Rattle.packet.specs.declared.message.ClimaxItem.TheVariants as climax
+use Rattle.writer.specs.Writing.{encode}
 use Rattle.packet.specs.declared.message.Message.{Message}
 use Rattle.packet.specs.declared.message.Rx.{Rx}
+use Rattle.packet.specs.Messages.{from_rx}
 use Rattle.record.specs.Kind.{kind_of, side_told}
 use Rattle.record.specs.Record.{seat_numbers, no_such_seat, entry_of, seat_of, lesson}
 use Rattle.air.specs.Air.{bench_air, aired}
@@ -56,7 +57,7 @@ calm_report b timestamp sequence s =
       pm = s.heard.field.pm;
       ptts = false;
       sct = sct_told b.signals;
-      items = record { sqi = sqi_told b.signals b.level; climax = climax.Absent; side = side_told (kind_of b.setup.kind) b.standby };
+      items = record { sqi = sqi_told b.signals b.level; climax = None; side = side_told (kind_of b.setup.kind) b.standby };
     }
 
 calm_report_lem : (b : Bench) (n timestamp : ℕ) → calm (from_rx (report_of b n timestamp)) ≡ calm_report b timestamp (entry_of 0 b.sequences n) (seat_of b.seats n)

@@ -1,10 +1,15 @@
 -- No public function asks anything: what follows from nothing is that nothing is asked.
-use base.Logic.{ent, emp, id⊢}
+use base.Logic.{ent, emp, sep, via, id⊢, emp∗, mono_l}
+use contract.Fact.{fact, fact_i}
 use borrow.Fn.World.{World}
 use Rattle.demands.specs.AsksNothing.{AsksNothingBase, AsksNothingPacket, AsksNothingItems, AsksNothingReader, AsksNothingWriter, AsksNothingRecord, AsksNothingSeats, AsksNothingAir, AsksNothingHearing, AsksNothingFraming, AsksNothingReporting, AsksNothingSending, AsksNothingText, AsksNothingWords, AsksNothingShow, AsksNothingGrammar, AsksNothing}
 
 pub nothing : (w : World) → ent w.𝓤 (emp w.𝓤) (emp w.𝓤)
 nothing w = id⊢ w.𝓤 (emp w.𝓤)
+
+-- what a loan of values of any type asks is what its type says
+outlives_alone : {φ : Type 0} (w : World) → φ → ent w.𝓤 (emp w.𝓤) (sep w.𝓤 (fact w.𝓤 φ) (emp w.𝓤))
+outlives_alone {φ} w x = via w.𝓤 _ (emp∗ w.𝓤 (emp w.𝓤)) (mono_l w.𝓤 (emp w.𝓤) (fact_i w.𝓤 φ (emp w.𝓤) x))
 
 pub asks_nothing_base : AsksNothingBase
 asks_nothing_base = record {
@@ -64,6 +69,8 @@ asks_nothing_record = record {
   opened = λ k a. nothing;
   fresh = λ k a. nothing;
   no_such_seat = λ k a. nothing;
+  entry_of = λ T laws copied clone dict k a w. outlives_alone w;
+  set_entry = λ T laws copied clone dict k a w. outlives_alone w;
   flag_of = λ k a. nothing;
   seat_of = λ k a. nothing;
   lesson_seat = λ k a. nothing;
@@ -120,12 +127,14 @@ asks_nothing_sending = record {
 
 pub asks_nothing_text : AsksNothingText
 asks_nothing_text = record {
+  new = λ k a. nothing;
   put_byte = λ k a. nothing;
   put = λ k a. nothing;
   put_bit = λ k a. nothing;
   put_number = λ k a. nothing;
   put_hex = λ k a. nothing;
   put_bytes = λ k a. nothing;
+  text = λ k a. nothing;
 }
 
 pub asks_nothing_words : AsksNothingWords

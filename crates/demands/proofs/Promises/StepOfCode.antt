@@ -4,16 +4,17 @@ use mathlib.Core.Path.{◌≡◌, refl, sym, ap, ap₂, ◌∙◌}
 use mathlib.Core.List.{List}
 use lib.ListN.{length, drop}
 use lib.Seq.{take_at}
-use Rattle.packet.specs.Refusals.{Answer, accepted, refused, mapped}
+use Rattle.std.specs.Prelude.{Result}
+use Rattle.packet.specs.Refusals.{Answer, accepted, refused, mapped, answer_of}
 use Rattle.record.specs.Record.{settled}
-use Rattle.writer.specs.Writing.{filled, written_answer}
+use Rattle.writer.specs.Writing.{filled}
 use Rattle.seats.specs.Ticking.{silent_seats, due_seats}
 use Rattle.hearing.specs.Account.{totals_said}
-use Rattle.hearing.specs.Answers.{totals_answer}
 use Rattle.reporting.specs.Reporting.{report_refusals, report_said, report_bytes, report_buffer}
 use Rattle.sending.specs.Sending.{tick_refusals, after_closings, records, sent_bytes, tick_said, no_seats, named_in, tick_sets, tick_buffer}
 use Rattle.bench.specs.Step.{Said, own, done, told, ticked, written, totals, counts, does, keeping}
-use Rattle.hearing.specs.declared.account.TotalsAnswer.{TotalsAnswer}
+use Rattle.packet.specs.declared.refusal.Refusal.{Refusal}
+use Rattle.record.specs.declared.seat.Totals.{Totals}
 use Rattle.record.specs.declared.whole.Bench.{Bench}
 use Rattle.demands.specs.StepOfCode.{did, was_done, in_front, read_back, sent_in, StepOfCode}
 use Rattle.packet.proofs.Judged.{judged_one}
@@ -61,7 +62,7 @@ unmoved : {A : Type 0} (answer : Answer A) (b : Bench) → settled answer b b �
 unmoved (accepted a) b = refl
 unmoved (refused n cause) b = refl
 
-counted : (b : Bench) (n : ℕ) (r : TotalsAnswer) → totals_answer r ≡ totals_said b n → did (mapped counts (totals_answer r)) b ≡ keeping b (totals n)
+counted : (b : Bench) (n : ℕ) (r : Result Totals Refusal) → answer_of r ≡ totals_said b n → did (mapped counts (answer_of r)) b ≡ keeping b (totals n)
 unfolding does
 counted b n r e = ap₂ did (ap (mapped counts) e) (sym (unmoved (totals_said b n) b))
 
@@ -81,7 +82,7 @@ step_of_code = record {
   hands_out = λ k a r e p. p.0;
   ticks = λ k a r e p.
       ap₂ did
-      (ap₂ (λ sets left. mapped (sent_in sets left) (written_answer r.answer)) p.1.0 p.1.1.0
+      (ap₂ (λ sets left. mapped (sent_in sets left) (answer_of r.answer)) p.1.0 p.1.1.0
       ∙ ap (mapped _) p.0 ∙ told_in_records a.0 a.1.0 a.1.1.0 a.1.1.1.0.now)
       p.1.1.1;
   sends = λ k a r e p. (p.0, p.1.1.0);

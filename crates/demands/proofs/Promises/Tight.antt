@@ -1,21 +1,15 @@
 -- Any two results that satisfy a promise coincide.
 use Prim.Native.Nat.{ℕ}
-use mathlib.Core.Path.{◌≡◌, ap, ap₂, sym, ◌∙◌}
+use mathlib.Core.Path.{◌≡◌, refl, ap, ap₂, sym, ◌∙◌}
 use mathlib.Core.List.{List}
 use denote.Ref.{Bor}
-use Rattle.packet.proofs.TellApart.{verdict_tells}
-use Rattle.reader.proofs.TellApart.{tx_tells, rx_tells}
-use Rattle.writer.proofs.TellApart.{written_tells}
-use Rattle.text.specs.Text.{Written}
+use Rattle.text.specs.declared.out.Line.{Line}
+use Rattle.text.specs.Lines.{Puts}
 use Rattle.text.proofs.Writing.{written_once}
-use Rattle.seats.specs.declared.opening.Opened.{Opened}
-use Rattle.seats.specs.declared.answer.Done.{Done}
+use Rattle.record.specs.declared.whole.Answered.{Answered}
 use Rattle.sending.specs.declared.sending.Ticked.{Ticked}
-use Rattle.hearing.specs.declared.hearing.Packeted.{Packeted}
-use Rattle.reporting.specs.declared.reporting.Reported.{Reported}
-use Rattle.demands.specs.Tight.{TightBase, TightPacket, TightItems, TightReader, TightWriter, TightRecord, TightSeats, TightAir, TightHearing, TightFraming, TightReporting, TightSending, TightText, TightWords, TightShow, TightGrammar, Tight}
-use Rattle.seats.proofs.TellApart.{open_tells, done_tells}
-use Rattle.hearing.proofs.TellApart.{packet_tells, totals_tells}
+use Rattle.demands.specs.Tight.{SameLine, TightBase, TightPacket, TightItems, TightReader, TightWriter, TightRecord, TightSeats, TightAir, TightHearing, TightFraming, TightReporting, TightSending, TightText, TightWords, TightShow, TightGrammar, Tight}
+use Rattle.packet.proofs.TellApart.{answer_tells}
 
 -- the promise is an equation for the result
 meet : {A : Type 0} {x y z : A} → x ≡ z → y ≡ z → x ≡ y
@@ -29,27 +23,18 @@ told {r = r} {s = s} tells p q = tells r s (p ∙ sym q)
 same_place : (r s : Bor (List ℕ)) {block at : ℕ} → (r.ref_ptr.0 ≡ block) × (r.ref_ptr.1 ≡ at) → (s.ref_ptr.0 ≡ block) × (s.ref_ptr.1 ≡ at) → r.ref_ptr ≡ s.ref_ptr
 same_place r s p q = ap₂ (λ a i. (a, i)) (meet p.0 q.0) (meet p.1 q.1)
 
--- it is a text written from a place on
-written : {out left other text : List ℕ} {at r s : ℕ} → Written out left at r text → Written out other at s text → (r ≡ s) × (left ≡ other)
-written p q = let z = written_once p q in (z.1, z.0)
+-- it is a text put on a line
+put_once : {l m n : Line} {t : List ℕ} → Puts l m t → Puts l n t → SameLine m n
+put_once p q = let z = written_once p.text q.text in (z.1, z.0, meet p.same_buffer q.same_buffer)
 
 -- Of each call: its answer, told apart, and the bench beside it.
-opened_once : {r s : Opened} → r.answer ≡ s.answer → r.bench ≡ s.bench → r ≡ s
-opened_once p q = ap₂ (λ bench answer. record { bench = bench; answer = answer }) q p
-
-done_once : {r s : Done} → r.answer ≡ s.answer → r.bench ≡ s.bench → r ≡ s
-done_once p q = ap₂ (λ bench answer. record { bench = bench; answer = answer }) q p
+answered_once : {A : Type 0} {r s : Answered A} → r.answer ≡ s.answer → r.bench ≡ s.bench → r ≡ s
+answered_once p q = ap₂ (λ bench answer. record { bench = bench; answer = answer }) q p
 
 ticked_once : {r s : Ticked} → r.answer ≡ s.answer → r.seats ≡ s.seats → r.bench ≡ s.bench → r ≡ s
 ticked_once {r} {s} p q w =
     ap₂ (λ bench sets. record { bench = bench; answer = r.answer; seats = sets }) w q
     ∙ ap (λ answer. record { bench = s.bench; answer = answer; seats = s.seats }) p
-
-packeted_once : {r s : Packeted} → r.answer ≡ s.answer → r.bench ≡ s.bench → r ≡ s
-packeted_once p q = ap₂ (λ bench answer. record { bench = bench; answer = answer }) q p
-
-reported_once : {r s : Reported} → r.answer ≡ s.answer → r.bench ≡ s.bench → r ≡ s
-reported_once p q = ap₂ (λ bench answer. record { bench = bench; answer = answer }) q p
 
 pub tight_base : TightBase
 tight_base = record {
@@ -84,16 +69,16 @@ tight_items = record { items_in = λ k a r s d e. meet }
 
 pub tight_reader : TightReader
 tight_reader = record {
-  read_tx = λ k a r s d e. told tx_tells;
-  read_rx = λ k a r s d e. told rx_tells;
+  read_tx = λ k a r s d e. told answer_tells;
+  read_rx = λ k a r s d e. told answer_tells;
   payload = λ k a r s d e p q. (meet p.0 q.0, same_place r s p.1 q.1);
 }
 
 pub tight_writer : TightWriter
 tight_writer = record {
-  write_tx = λ k a r s d e p q. (told written_tells p.0 q.0, meet p.1 q.1);
-  write_rx = λ k a r s d e p q. (told written_tells p.0 q.0, meet p.1 q.1);
-  put_rx = λ k a r s d e p q. (told written_tells p.0 q.0, meet p.1 q.1);
+  write_tx = λ k a r s d e p q. (told answer_tells p.0 q.0, meet p.1 q.1);
+  write_rx = λ k a r s d e p q. (told answer_tells p.0 q.0, meet p.1 q.1);
+  put_rx = λ k a r s d e p q. (told answer_tells p.0 q.0, meet p.1 q.1);
 }
 
 pub tight_record : TightRecord
@@ -107,6 +92,8 @@ tight_record = record {
   opened = λ k a r s d e. meet;
   fresh = λ k a r s d e. meet;
   no_such_seat = λ k a r s d e. meet;
+  entry_of = λ T laws copied clone dict k a r s d e. meet;
+  set_entry = λ T laws copied clone dict k a r s d e p q. (refl, meet p q);
   flag_of = λ k a r s d e. meet;
   seat_of = λ k a r s d e. meet;
   lesson_seat = λ k a r s d e. meet;
@@ -115,14 +102,14 @@ tight_record = record {
 
 pub tight_seats : TightSeats
 tight_seats = record {
-  open_seat = λ k a r s d e p q. opened_once (told open_tells p.0 q.0) (meet p.1 q.1);
-  close = λ k a r s d e p q. done_once (told done_tells p.0 q.0) (meet p.1 q.1);
-  seat_verdict = λ k a r s d e. told verdict_tells;
+  open_seat = λ k a r s d e p q. answered_once (told answer_tells p.0 q.0) (meet p.1 q.1);
+  close = λ k a r s d e p q. answered_once (told answer_tells p.0 q.0) (meet p.1 q.1);
+  seat_verdict = λ k a r s d e. told answer_tells;
   may_key = λ k a r s d e. meet;
   own_id = λ k a r s d e. meet;
   received = λ k a r s d e. meet;
   transmitter = λ k a r s d e. meet;
-  side = λ k a r s d e p q. done_once (told done_tells p.0 q.0) (meet p.1 q.1);
+  side = λ k a r s d e p q. answered_once (told answer_tells p.0 q.0) (meet p.1 q.1);
   silence_cause = λ k a r s d e. meet;
   silent_seats = λ k a r s d e. meet;
   due_seats = λ k a r s d e. meet;
@@ -139,14 +126,14 @@ tight_air = record {
 
 pub tight_hearing : TightHearing
 tight_hearing = record {
-  packet = λ k a r s d e p q. packeted_once (told packet_tells p.0 q.0) (meet p.1 q.1);
+  packet = λ k a r s d e p q. answered_once (told answer_tells p.0 q.0) (meet p.1 q.1);
   audio = λ k a r s d e p q. (meet p.0 q.0, same_place r s p.1 q.1);
-  totals = λ k a r s d e. told totals_tells;
+  totals = λ k a r s d e. told answer_tells;
 }
 
 pub tight_reporting : TightReporting
 tight_reporting = record {
-  report = λ k a r s d e p q. (reported_once (told written_tells p.0 q.0) (meet p.1.1 q.1.1), meet p.1.0 q.1.0);
+  report = λ k a r s d e p q. (answered_once (told answer_tells p.0 q.0) (meet p.1.1 q.1.1), meet p.1.0 q.1.0);
   report_of = λ k a r s d e. meet;
   next_sequence = λ k a r s d e. meet;
 }
@@ -159,17 +146,19 @@ tight_framing = record {
 pub tight_sending : TightSending
 tight_sending = record {
   tick = λ k a r s d e p q.
-      (ticked_once (told written_tells p.0 q.0) (meet p.1.0 q.1.0) (meet p.1.1.1 q.1.1.1), meet p.1.1.0 q.1.1.0);
+      (ticked_once (told answer_tells p.0 q.0) (meet p.1.0 q.1.0) (meet p.1.1.1 q.1.1.1), meet p.1.1.0 q.1.1.0);
 }
 
 pub tight_text : TightText
 tight_text = record {
-  put_byte = λ k a r s d e. written;
-  put = λ k a r s d e. written;
-  put_bit = λ k a r s d e. written;
-  put_number = λ k a r s d e. written;
-  put_hex = λ k a r s d e. written;
-  put_bytes = λ k a r s d e. written;
+  new = λ k a r s d e p q. (meet p.1.1 q.1.1, meet p.1.0 q.1.0, meet p.0 q.0);
+  put = λ k a r s d e. put_once;
+  put_byte = λ k a r s d e. put_once;
+  put_bit = λ k a r s d e. put_once;
+  put_number = λ k a r s d e. put_once;
+  put_hex = λ k a r s d e. put_once;
+  put_bytes = λ k a r s d e. put_once;
+  text = λ k a r s d e p q. (meet p.0 q.0, meet p.1 q.1);
 }
 
 pub tight_words : TightWords
@@ -190,12 +179,12 @@ tight_words = record {
 
 pub tight_show : TightShow
 tight_show = record {
-  tx_line = λ k a r s d e. written;
-  rx_line = λ k a r s d e. written;
-  refused_line = λ k a r s d e. written;
-  refusal_line = λ k a r s d e. written;
-  answer_line = λ k a r s d e. written;
-  decode = λ k a r s d e. written;
+  tx_line = λ k a r s d e. put_once;
+  rx_line = λ k a r s d e. put_once;
+  refused_line = λ k a r s d e. put_once;
+  refusal_line = λ k a r s d e. put_once;
+  answer_line = λ k a r s d e. put_once;
+  decode = λ k a r s d e. put_once;
 }
 
 pub tight_grammar : TightGrammar
