@@ -13,6 +13,9 @@ use std::array;
 use text::Line;
 use writer::{write_rx, write_tx};
 
+// The answer is on the line, unless the call is refused.
+type Said = Result<(), Refusal>;
+
 // `bytes` has the bytes that the line gave; the line itself says what was expected where it is no call.
 pub(crate) fn answer(b: &mut Bench, call: Call, s: &[u8], bytes: &[u8], line: &mut Line) {
     if let Err(r) = accepted(b, call, s, bytes, line) {
@@ -26,7 +29,7 @@ fn accepted(
     s: &[u8],
     bytes: &[u8],
     line: &mut Line,
-) -> Result<(), Refusal> {
+) -> Said {
     let ext = b.setup.ext;
     match call {
         Call::Nothing => {}
@@ -88,7 +91,7 @@ fn kept<T>(b: &mut Bench, after: Answered<T>) -> Result<T, Refusal> {
 }
 
 // A call that tells nothing.
-fn done(b: &mut Bench, after: Answered<()>, line: &mut Line) -> Result<(), Refusal> {
+fn done(b: &mut Bench, after: Answered<()>, line: &mut Line) -> Said {
     kept(b, after)?;
     line.put(b"ok");
     Ok(())
@@ -100,7 +103,7 @@ fn tick(
     timestamp: u32,
     room: usize,
     line: &mut Line,
-) -> Result<(), Refusal> {
+) -> Said {
     let mut buffer = [0u8; ROOM];
     let ticked = bench::tick(*b, ms, timestamp, &mut buffer[..room.min(ROOM)]);
     *b = ticked.bench;
@@ -109,7 +112,7 @@ fn tick(
     Ok(())
 }
 
-fn hear(b: &mut Bench, seat: u8, p: &[u8], line: &mut Line) -> Result<(), Refusal> {
+fn hear(b: &mut Bench, seat: u8, p: &[u8], line: &mut Line) -> Said {
     let answer = kept(b, bench::packet(*b, seat, p));
     heard_line(line, answer?, bench::audio(answer, p));
     Ok(())
@@ -122,18 +125,18 @@ fn report(
     lent: Lent,
     bytes: &[u8],
     line: &mut Line,
-) -> Result<(), Refusal> {
+) -> Said {
     write(lent, bytes, line, |audio, buffer| {
         kept(b, bench::report(*b, seat, timestamp, audio, buffer))
     })
 }
 
-fn tx(ext: u16, p: &[u8], line: &mut Line) -> Result<(), Refusal> {
+fn tx(ext: u16, p: &[u8], line: &mut Line) -> Said {
     tx_line(line, read_tx(ext, p)?, payload(p).len());
     Ok(())
 }
 
-fn rx(ext: u16, p: &[u8], line: &mut Line) -> Result<(), Refusal> {
+fn rx(ext: u16, p: &[u8], line: &mut Line) -> Said {
     rx_line(line, read_rx(ext, p)?, payload(p).len());
     Ok(())
 }
@@ -144,7 +147,7 @@ fn write<W: FnOnce(&[u8], &mut [u8]) -> Result<usize, Refusal>>(
     bytes: &[u8],
     line: &mut Line,
     writer: W,
-) -> Result<(), Refusal>
+) -> Said
     requires { W.IsAlwaysCallable writer }
 {
     let mut buffer = [0u8; ROOM];
