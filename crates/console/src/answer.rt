@@ -23,13 +23,7 @@ pub(crate) fn answer(b: &mut Bench, call: Call, s: &[u8], bytes: &[u8], line: &m
     }
 }
 
-fn accepted(
-    b: &mut Bench,
-    call: Call,
-    s: &[u8],
-    bytes: &[u8],
-    line: &mut Line,
-) -> Said {
+fn accepted(b: &mut Bench, call: Call, s: &[u8], bytes: &[u8], line: &mut Line) -> Said {
     let ext = b.setup.ext;
     match call {
         Call::Nothing => {}
@@ -97,13 +91,7 @@ fn done(b: &mut Bench, after: Answered<()>, line: &mut Line) -> Said {
     Ok(())
 }
 
-fn tick(
-    b: &mut Bench,
-    ms: u16,
-    timestamp: u32,
-    room: usize,
-    line: &mut Line,
-) -> Said {
+fn tick(b: &mut Bench, ms: u16, timestamp: u32, room: usize, line: &mut Line) -> Said {
     let mut buffer = [0u8; ROOM];
     let ticked = bench::tick(*b, ms, timestamp, &mut buffer[..room.min(ROOM)]);
     *b = ticked.bench;

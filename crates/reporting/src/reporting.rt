@@ -51,8 +51,10 @@ pub fn report_of(b: Bench, n: u8, timestamp: u32) -> Rx
     ensures { result ≡ report_of b n timestamp }
 {
     let seat = seat_of(b.seats, n);
+    // A copy of these alone: lent out of b, each report of a tick would copy the whole bench.
+    let sequences = b.sequences;
     Rx {
-        sequence: entry_of(0, &b.sequences, n),
+        sequence: entry_of(0, &sequences, n),
         timestamp,
         ssrc: seat.ssrc,
         ptt: b.air.ptt,
