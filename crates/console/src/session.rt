@@ -5,7 +5,7 @@ use base::part;
 use bench::Bench;
 use grammar::parsed;
 use std::io;
-use text::put_byte;
+use text::Line;
 
 // The longest line that is read, without its end.
 const LINE: usize = 2048;
@@ -53,29 +53,30 @@ impl Session {
     // Answers the line that has come, in one write.
     pub(crate) fn answer(&mut self, rt: &impl Print) -> io::Result<()> {
         // The longest answer, 30 ms of audio in hexadecimal, has under 600 bytes.
-        let mut out = [0u8; 2048];
-        let end = match self.length {
-            Some(n) => told(&mut self.bench, part(&self.line, 0, n), &mut out),
-            None => too_long(&mut out),
-        };
+        let mut room = [0u8; 2048];
+        let mut line = Line::new(&mut room);
+        match self.length {
+            Some(n) => told(&mut self.bench, part(&self.line, 0, n), &mut line),
+            None => too_long(&mut line),
+        }
         self.length = Some(0);
-        send(rt, &mut out, end)
+        send(rt, &mut line)
     }
 }
 
-// The line of the answer to a line.
-fn told(b: &mut Bench, s: &[u8], out: &mut [u8]) -> usize {
+// Puts the answer to a line.
+fn told(b: &mut Bench, s: &[u8], line: &mut Line) {
     // Two digits a byte: no line says more.
     let mut bytes = [0u8; 1024];
     let call = parsed(s, &mut bytes);
-    answer(b, call, s, &bytes, out)
+    answer(b, call, s, &bytes, line);
 }
 
 // A line without words is not answered.
-fn send(rt: &impl Print, out: &mut [u8], end: usize) -> io::Result<()> {
-    if end == 0 {
+fn send(rt: &impl Print, line: &mut Line) -> io::Result<()> {
+    if line.text().is_empty() {
         return Ok(());
     }
-    let after = put_byte(out, end, b'\n');
-    rt.write_all(part(out, 0, after))
+    line.put_byte(b'\n');
+    rt.write_all(line.text())
 }

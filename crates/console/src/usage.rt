@@ -1,6 +1,6 @@
 // The calls as they are to be written, for `help` and for what a wrong line is told.
 use grammar::{Name, named};
-use text::{put, put_byte};
+use text::Line;
 
 fn usage(call: Name) -> &'static [u8] {
     match call {
@@ -27,21 +27,20 @@ fn usage(call: Name) -> &'static [u8] {
 }
 
 // What a line that is no call is told.
-pub(crate) fn expected(out: &mut [u8], s: &[u8]) -> usize {
-    let at = put(out, 0, b"error: expected ");
-    put(out, at, named(s).map_or(b"a call; help prints them", usage))
+pub(crate) fn expected(line: &mut Line, s: &[u8]) {
+    line.put(b"error: expected ");
+    line.put(named(s).map_or(b"a call; help prints them", usage));
 }
 
-pub(crate) fn too_long(out: &mut [u8]) -> usize {
-    put(out, 0, b"error: expected a line of at most 2048 bytes")
+pub(crate) fn too_long(line: &mut Line) {
+    line.put(b"error: expected a line of at most 2048 bytes");
 }
 
 // Every call, one a line.
-pub(crate) fn help(out: &mut [u8]) -> usize {
-    let mut at = put(out, 0, usage(Name::Setup));
+pub(crate) fn help(line: &mut Line) {
+    line.put(usage(Name::Setup));
     for call in &Name::ALL[1..] {
-        at = put_byte(out, at, b'\n');
-        at = put(out, at, usage(*call));
+        line.put_byte(b'\n');
+        line.put(usage(*call));
     }
-    at
 }

@@ -3,6 +3,7 @@
 
 use base::part;
 use std::io::{self, Read};
+use text::Line;
 
 fn main(rt: HostRuntime) -> io::Result<()> {
     // One byte more than the longest packet: what follows it cannot change the answer.
@@ -12,7 +13,8 @@ fn main(rt: HostRuntime) -> io::Result<()> {
         &mut &mut packet[..],
     )?;
     // The longest line has 102 bytes with its end.
-    let mut line = [0u8; 128];
-    let end = show::decode(&mut line, 0x0167, part(&packet, 0, n as usize));
-    rt.write_all(&line[..end])
+    let mut room = [0u8; 128];
+    let mut line = Line::new(&mut room);
+    show::decode(&mut line, 0x0167, part(&packet, 0, n as usize));
+    rt.write_all(line.text())
 }

@@ -4,6 +4,7 @@
 
 use base::part;
 use std::io::{self, Read};
+use text::Line;
 
 // The next packet, read into the buffer; none at the end of the input.
 fn next<'a>(input: &mut impl Read, buffer: &'a mut [u8]) -> io::Result<Option<&'a [u8]>> {
@@ -17,9 +18,10 @@ fn next<'a>(input: &mut impl Read, buffer: &'a mut [u8]) -> io::Result<Option<&'
 }
 
 fn print(rt: &impl Print, packet: &[u8]) -> io::Result<()> {
-    let mut line = [0u8; 128];
-    let end = show::decode(&mut line, 0x0167, packet);
-    rt.write_all(&line[..end])
+    let mut room = [0u8; 128];
+    let mut line = Line::new(&mut room);
+    show::decode(&mut line, 0x0167, packet);
+    rt.write_all(line.text())
 }
 
 fn main(rt: HostRuntime) -> io::Result<()> {

@@ -131,12 +131,14 @@ pub record AsksNothingSending : Type 2 where
   pub tick : NothingAsked sending.tick.Reads.requires
 
 pub record AsksNothingText : Type 2 where
-  pub put_byte : NothingAsked text.put_byte.Reads.requires
-  pub put : NothingAsked text.put.Reads.requires
-  pub put_bit : NothingAsked text.put_bit.Reads.requires
-  pub put_number : NothingAsked text.put_number.Reads.requires
-  pub put_hex : NothingAsked text.put_hex.Reads.requires
-  pub put_bytes : NothingAsked text.put_bytes.Reads.requires
+  pub new : NothingAsked text.out.Line.new.Reads.requires
+  pub put_byte : NothingAsked text.out.Line.put_byte.Reads.requires
+  pub put : NothingAsked text.out.Line.put.Reads.requires
+  pub put_bit : NothingAsked text.out.Line.put_bit.Reads.requires
+  pub put_number : NothingAsked text.out.Line.put_number.Reads.requires
+  pub put_hex : NothingAsked text.out.Line.put_hex.Reads.requires
+  pub put_bytes : NothingAsked text.out.Line.put_bytes.Reads.requires
+  pub text : NothingAsked text.out.Line.text.Reads.requires
 
 pub record AsksNothingWords : Type 2 where
   pub word : NothingAsked words.word.Reads.requires

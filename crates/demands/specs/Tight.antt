@@ -20,6 +20,7 @@ use Rattle.hearing.proofs as hearing
 use Rattle.framing.proofs as framing
 use Rattle.reporting.proofs as reporting
 use Rattle.sending.proofs as sending
+use Rattle.text.specs.declared.out.Line.{Line}
 use Rattle.text.proofs as text
 use Rattle.words.proofs as words
 use Rattle.show.proofs as show
@@ -35,6 +36,18 @@ abbrev pub OneResultAndBuffer : {K : Type 0} {A R E : K → Type 0} → (promise
     → (lent : (k : K) → E k → MutBor (List ℕ)) → Type 0
 OneResultAndBuffer {K} {A} {R} {E} promise lent =
     (k : K) (a : A k) (r s : R k) (d e : E k) → promise k a r d → promise k a s e → (r ≡ s) × ((lent k d).now ≡ (lent k e).now)
+
+-- The same where a line is lent: any two places that it is left at, and any two contents of its buffer, which it stays in.
+abbrev pub SameLine : Line → Line → Type 0
+SameLine l m = (l.at ≡ m.at) × (l.out.now ≡ m.out.now) × (l.out.ghost_name ≡ m.out.ghost_name)
+
+abbrev pub OneLine : {K : Type 0} {A R E : K → Type 0} → (promise : (k : K) → A k → R k → E k → Type 0)
+    → (lent : (k : K) → E k → MutBor Line) → Type 0
+OneLine {K} {A} {R} {E} promise lent =
+    (k : K) (a : A k) (r s : R k) (d e : E k) → promise k a r d → promise k a s e → SameLine (lent k d).now (lent k e).now
+
+abbrev pub OneNewLine : {K : Type 0} {A E : K → Type 0} → (promise : (k : K) → A k → Line → E k → Type 0) → Type 0
+OneNewLine {K} {A} {E} promise = (k : K) (a : A k) (r s : Line) (d e : E k) → promise k a r d → promise k a s e → SameLine r s
 
 -- The same of a returned part of a lent slice: its content, and where it points.
 abbrev pub OnePart : {K : Type 0} {A E : K → Type 0} → (promise : (k : K) → A k → Bor (List ℕ) → E k → Type 0) → Type 0
@@ -145,12 +158,14 @@ pub record TightSending : Type 1 where
   pub tick : OneResultAndBuffer sending.tick.Reads.Learnt (λ k e. e.1.1.1.0)
 
 pub record TightText : Type 1 where
-  pub put_byte : OneResultAndBuffer text.put_byte.Reads.Learnt (λ k e. e.0)
-  pub put : OneResultAndBuffer text.put.Reads.Learnt (λ k e. e.0)
-  pub put_bit : OneResultAndBuffer text.put_bit.Reads.Learnt (λ k e. e.0)
-  pub put_number : OneResultAndBuffer text.put_number.Reads.Learnt (λ k e. e.0)
-  pub put_hex : OneResultAndBuffer text.put_hex.Reads.Learnt (λ k e. e.0)
-  pub put_bytes : OneResultAndBuffer text.put_bytes.Reads.Learnt (λ k e. e.0)
+  pub new : OneNewLine text.out.Line.new.Reads.Learnt
+  pub put : OneLine text.out.Line.put.Reads.Learnt (λ k e. e.0)
+  pub put_byte : OneLine text.out.Line.put_byte.Reads.Learnt (λ k e. e.0)
+  pub put_bit : OneLine text.out.Line.put_bit.Reads.Learnt (λ k e. e.0)
+  pub put_number : OneLine text.out.Line.put_number.Reads.Learnt (λ k e. e.0)
+  pub put_hex : OneLine text.out.Line.put_hex.Reads.Learnt (λ k e. e.0)
+  pub put_bytes : OneLine text.out.Line.put_bytes.Reads.Learnt (λ k e. e.0)
+  pub text : OnePart text.out.Line.text.Reads.Learnt
 
 pub record TightWords : Type 1 where
   pub word : OnePart words.word.Reads.Learnt
@@ -167,12 +182,12 @@ pub record TightWords : Type 1 where
   pub bytes : OneResultAndBuffer words.bytes.Reads.Learnt (λ k e. e.1.0)
 
 pub record TightShow : Type 1 where
-  pub tx_line : OneResultAndBuffer show.tx_line.Reads.Learnt (λ k e. e.0)
-  pub rx_line : OneResultAndBuffer show.rx_line.Reads.Learnt (λ k e. e.0)
-  pub refused_line : OneResultAndBuffer show.refused_line.Reads.Learnt (λ k e. e.0)
-  pub refusal_line : OneResultAndBuffer show.refusal_line.Reads.Learnt (λ k e. e.0)
-  pub answer_line : OneResultAndBuffer show.answer_line.Reads.Learnt (λ k e. e.0)
-  pub decode : OneResultAndBuffer show.decode.Reads.Learnt (λ k e. e.0)
+  pub tx_line : OneLine show.tx_line.Reads.Learnt (λ k e. e.0)
+  pub rx_line : OneLine show.rx_line.Reads.Learnt (λ k e. e.0)
+  pub refused_line : OneLine show.refused_line.Reads.Learnt (λ k e. e.0)
+  pub refusal_line : OneLine show.refusal_line.Reads.Learnt (λ k e. e.0)
+  pub answer_line : OneLine show.answer_line.Reads.Learnt (λ k e. e.0)
+  pub decode : OneLine show.decode.Reads.Learnt (λ k e. e.0)
 
 pub record TightGrammar : Type 1 where
   pub named : OneResult grammar.named.Reads.Learnt

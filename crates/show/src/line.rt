@@ -1,47 +1,48 @@
 // The lines, with no line end. What does not fit into the buffer is dropped.
-ghost use Rattle.text.specs.Text.{Written};
+ghost use Rattle.text.specs.Lines.{Puts};
 ghost use Rattle.packet.specs.Refusals.{number_of, cause_of};
 ghost use Rattle.show.specs.Lines.{tx_line, rx_line, refused_line, refusal_line};
 
 use crate::pieces::{named, put_climax, put_head, put_side, put_sqi};
 use packet::{Refusal, Rx, Tx, cause, number};
+use text::Line;
 
-pub fn tx_line(out: &mut [u8], m: Tx, audio: usize) -> usize
-    ensures { Written out.old out.new 0 result (tx_line m audio) }
+pub fn tx_line(line: &mut Line, m: Tx, audio: usize)
+    ensures { Puts line.old line.new (tx_line m audio) }
 {
-    let at = put_head(out, b"TX", m.sequence, m.timestamp, m.ssrc, audio, m.ptt);
-    let at = named(out, at, b" id=", m.id as u64);
-    let at = named(out, at, b" pm=", m.pm as u64);
-    let at = named(out, at, b" ptts=", m.ptts as u64);
-    let at = put_climax(out, at, m.climax);
-    let at = put_side(out, at, m.side);
-    named(out, at, b" audio=", audio as u64)
+    put_head(line, b"TX", m.sequence, m.timestamp, m.ssrc, audio, m.ptt);
+    named(line, b" id=", m.id as u64);
+    named(line, b" pm=", m.pm as u64);
+    named(line, b" ptts=", m.ptts as u64);
+    put_climax(line, m.climax);
+    put_side(line, m.side);
+    named(line, b" audio=", audio as u64);
 }
 
-pub fn rx_line(out: &mut [u8], m: Rx, audio: usize) -> usize
-    ensures { Written out.old out.new 0 result (rx_line m audio) }
+pub fn rx_line(line: &mut Line, m: Rx, audio: usize)
+    ensures { Puts line.old line.new (rx_line m audio) }
 {
-    let at = put_head(out, b"RX", m.sequence, m.timestamp, m.ssrc, audio, m.ptt);
-    let at = named(out, at, b" squ=", m.squ as u64);
-    let at = named(out, at, b" id=", m.id as u64);
-    let at = named(out, at, b" pm=", m.pm as u64);
-    let at = named(out, at, b" ptts=", m.ptts as u64);
-    let at = named(out, at, b" sct=", m.sct as u64);
-    let at = put_sqi(out, at, m.sqi);
-    let at = put_side(out, at, m.side);
-    named(out, at, b" audio=", audio as u64)
+    put_head(line, b"RX", m.sequence, m.timestamp, m.ssrc, audio, m.ptt);
+    named(line, b" squ=", m.squ as u64);
+    named(line, b" id=", m.id as u64);
+    named(line, b" pm=", m.pm as u64);
+    named(line, b" ptts=", m.ptts as u64);
+    named(line, b" sct=", m.sct as u64);
+    put_sqi(line, m.sqi);
+    put_side(line, m.side);
+    named(line, b" audio=", audio as u64);
 }
 
 #[tactic(auto, unfolding(crate::specs::Lines::refused_line))]
-pub fn refused_line(out: &mut [u8], number: u8) -> usize
-    ensures { Written out.old out.new 0 result (refused_line number) }
+pub fn refused_line(line: &mut Line, number: u8)
+    ensures { Puts line.old line.new (refused_line number) }
 {
-    named(out, 0, b"refused ", number as u64)
+    named(line, b"refused ", number as u64);
 }
 
-pub fn refusal_line(out: &mut [u8], refusal: Refusal) -> usize
-    ensures { Written out.old out.new 0 result (refusal_line (number_of refusal) (cause_of (number_of refusal))) }
+pub fn refusal_line(line: &mut Line, refusal: Refusal)
+    ensures { Puts line.old line.new (refusal_line (number_of refusal) (cause_of (number_of refusal))) }
 {
-    let at = refused_line(out, number(refusal));
-    named(out, at, b" cause ", cause(refusal) as u64)
+    refused_line(line, number(refusal));
+    named(line, b" cause ", cause(refusal) as u64);
 }

@@ -1,76 +1,77 @@
-// The pieces of a line. Each returns the place after what it writes.
+// The pieces of a line.
 ghost use Rattle.std.specs.Prelude.{◌++◌};
-ghost use Rattle.text.specs.Text.{Written, decimal};
+ghost use Rattle.text.specs.Text.{decimal};
+ghost use Rattle.text.specs.Lines.{Puts};
 ghost use Rattle.show.specs.Lines.{kind_text, head_text, sqi_text, climax_text, side_text};
 
 use packet::{Side, Sqi};
-use text::{put, put_number};
+use text::Line;
 
 // A truth counts as 1 or 0.
-pub(crate) fn named(out: &mut [u8], at: usize, name: &[u8], n: u64) -> usize
-    ensures { Written out.old out.new at result (name.now ++ decimal n) }
+pub(crate) fn named(line: &mut Line, name: &[u8], n: u64)
+    ensures { Puts line.old line.new (name.now ++ decimal n) }
 {
-    let next = put(out, at, name);
-    put_number(out, next, n)
+    line.put(name);
+    line.put_number(n);
 }
 
-fn put_kind(out: &mut [u8], at: usize, audio: usize) -> usize
-    ensures { Written out.old out.new at result (kind_text audio) }
+fn put_kind(line: &mut Line, audio: usize)
+    ensures { Puts line.old line.new (kind_text audio) }
 {
     if audio == 0 {
-        put(out, at, b" kind=R2S")
+        line.put(b" kind=R2S");
     } else {
-        put(out, at, b" kind=AUDIO")
+        line.put(b" kind=AUDIO");
     }
 }
 
 // What the lines of both directions begin with.
 pub(crate) fn put_head(
-    out: &mut [u8],
+    line: &mut Line,
     name: &[u8],
     sequence: u16,
     timestamp: u32,
     ssrc: u32,
     audio: usize,
     ptt: u8,
-) -> usize
-    ensures { Written out.old out.new 0 result (head_text name.now sequence timestamp ssrc audio ptt) }
+)
+    ensures { Puts line.old line.new (head_text name.now sequence timestamp ssrc audio ptt) }
 {
-    let at = put(out, 0, name);
-    let at = named(out, at, b" seq=", sequence as u64);
-    let at = named(out, at, b" ts=", timestamp as u64);
-    let at = named(out, at, b" ssrc=", ssrc as u64);
-    let at = put_kind(out, at, audio);
-    named(out, at, b" ptt=", ptt as u64)
+    line.put(name);
+    named(line, b" seq=", sequence as u64);
+    named(line, b" ts=", timestamp as u64);
+    named(line, b" ssrc=", ssrc as u64);
+    put_kind(line, audio);
+    named(line, b" ptt=", ptt as u64);
 }
 
-pub(crate) fn put_sqi(out: &mut [u8], at: usize, item: Option<Sqi>) -> usize
-    ensures { Written out.old out.new at result (sqi_text item) }
+pub(crate) fn put_sqi(line: &mut Line, item: Option<Sqi>)
+    ensures { Puts line.old line.new (sqi_text item) }
 {
     match item {
-        None => put(out, at, b" sqi=-"),
+        None => line.put(b" sqi=-"),
         Some(sqi) => {
-            let next = named(out, at, b" sqi=", sqi.quality as u64);
-            named(out, next, b"/", sqi.method as u64)
+            named(line, b" sqi=", sqi.quality as u64);
+            named(line, b"/", sqi.method as u64);
         }
     }
 }
 
-pub(crate) fn put_climax(out: &mut [u8], at: usize, item: Option<u8>) -> usize
-    ensures { Written out.old out.new at result (climax_text item) }
+pub(crate) fn put_climax(line: &mut Line, item: Option<u8>)
+    ensures { Puts line.old line.new (climax_text item) }
 {
     match item {
-        None => put(out, at, b" cld=-"),
-        Some(value) => named(out, at, b" cld=", value as u64),
+        None => line.put(b" cld=-"),
+        Some(value) => named(line, b" cld=", value as u64),
     }
 }
 
-pub(crate) fn put_side(out: &mut [u8], at: usize, item: Option<Side>) -> usize
-    ensures { Written out.old out.new at result (side_text item) }
+pub(crate) fn put_side(line: &mut Line, item: Option<Side>)
+    ensures { Puts line.old line.new (side_text item) }
 {
     match item {
-        None => put(out, at, b" mss=-"),
-        Some(Side::Main) => put(out, at, b" mss=0"),
-        Some(Side::Standby) => put(out, at, b" mss=1"),
+        None => line.put(b" mss=-"),
+        Some(Side::Main) => line.put(b" mss=0"),
+        Some(Side::Standby) => line.put(b" mss=1"),
     }
 }

@@ -8,8 +8,10 @@ use Rattle.std.proofs.lemmas.Bool.Decides.{nat_tests}
 use native.Mathlib.Nat.{not-suc-le-zero}
 use borrow.Author.Tests.{lt-ltb}
 use lib.Dec.{ltb}
-use Rattle.text.specs.Text.{Written, digit, digits, decimal}
-use Rattle.text.proofs.Writing.{◌then◌}
+use Rattle.text.specs.Text.{digit, digits, decimal}
+use Rattle.text.specs.Lines.{Puts}
+use Rattle.text.specs.declared.out.Line.{Line}
+use Rattle.text.proofs.Writing.{◌and◌}
 
 -- any bound will do
 bounds : (j k n : ℕ) → n ≤ j → n ≤ k → digits j n ≡ digits k n
@@ -31,9 +33,8 @@ more_digits zero h = absurd (not-suc-le-zero h)
 more_digits (suc n) h = grind (arith, nat_tests, bounds (suc n / 10) n (suc n / 10) (omega arith) (omega arith))
 
 -- How `put_number` writes them.
-pub last_digit : {l m : List ℕ} {from to : ℕ} (n : ℕ) → n < 10 → Written l m from to (digit n ∷ []) → Written l m from to (decimal n)
+pub last_digit : {l m : Line} (n : ℕ) → n < 10 → Puts l m (digit n ∷ []) → Puts l m (decimal n)
 last_digit n h p = rw (← one_digit n h) p
 
-pub next_digit : {l m k : List ℕ} {from mid to : ℕ} (n : ℕ) → 10 ≤ n
-    → Written l m from mid (decimal (n / 10)) → Written m k mid to (digit n ∷ []) → Written l k from to (decimal n)
-next_digit n h p q = rw (← more_digits n h) (p then q)
+pub next_digit : {l m k : Line} (n : ℕ) → 10 ≤ n → Puts l m (decimal (n / 10)) → Puts m k (digit n ∷ []) → Puts l k (decimal n)
+next_digit n h p q = rw (← more_digits n h) (p and q)

@@ -12,6 +12,8 @@ use Rattle.base.specs.Bytes.{overlaid}
 use Rattle.base.proofs.Parts.{part_to_end}
 use Rattle.base.proofs.Buffers.{overlaid_none, sets_append}
 use Rattle.text.specs.Text.{Written}
+use Rattle.text.specs.Lines.{Puts}
+use Rattle.text.specs.declared.out.Line.{Line}
 
 sets_out : (l b : List ℕ) (i : ℕ) → length l ≤ i → sets l i b ≡ l
 sets_out l [] i h = refl
@@ -64,6 +66,10 @@ pub ◌then◌ : {l m n : List ℕ} {from mid to : ℕ} {a b : List ℕ} → Wri
       ∙ sym (sets_append l a b from);
   place = omega (arith, p.place, q.place, ap length p.buffer ∙ length-sets l from a, length-append a b);
 }
+
+infixl 45 ◌and◌
+pub ◌and◌ : {l m n : Line} {a b : List ℕ} → Puts l m a → Puts m n b → Puts l n (a ++ b)
+◌and◌ p q = record { same_buffer = q.same_buffer ∙ p.same_buffer; text = p.text then q.text }
 
 -- the promise leaves one content of the buffer and one place
 pub written_once : {l m n : List ℕ} {from r s : ℕ} {t : List ℕ} → Written l m from r t → Written l n from s t → (m ≡ n) × (r ≡ s)

@@ -1,7 +1,7 @@
-// Text out: written into lent buffers; no packet is known here. Start at specs/Text.antt, which says what it is to write
-// text; then out.rt. proofs/Writing.antt has `_then_`, by which whoever writes several texts shows what stands there.
+// Text out: lines in lent buffers; no packet is known here. Start at specs/Text.antt and Lines.antt, which say what it is to
+// put text on a line; then out.rt. proofs/Writing.antt has `_and_`, by which whoever puts several texts shows what stands there.
 #![tactic(auto)]
 
 pub mod out;
 
-pub use out::{put, put_bit, put_byte, put_bytes, put_hex, put_number};
+pub use out::Line;

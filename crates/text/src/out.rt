@@ -1,41 +1,93 @@
-// Text out: each function writes at a place and returns the place after it. What does not fit is dropped, so that a
-// caller has nothing to test between two of them.
+// Text out: a line grows in a lent buffer. What does not fit is dropped, so that a caller has nothing to test between
+// two texts.
 // kept: by hand; `write!` says what is written after an `Ok` alone, and no clause promises an `Ok`.
 ghost use Rattle.std.specs.Prelude.{◌≡◌, [], ◌∷◌, ◌<◌};
-ghost use Rattle.text.specs.Text.{Written, decimal, bit_text, hex_digit, hex_byte, hex, bytes_text};
+ghost use Rattle.base.specs.Bytes.{part_of};
+ghost use Rattle.text.specs.Text.{decimal, bit_text, hex_digit, hex_byte, hex, bytes_text};
+ghost use Rattle.text.specs.Lines.{Puts};
 
-use base::copy_in;
+use base::{copy_in, part};
 
-#[tactic(auto, using(crate::proofs::Writing::laid))]
-pub fn put(out: &mut [u8], at: usize, text: &[u8]) -> usize
-    ensures { Written out.old out.new at result text.now }
-{
-    let from = at.min(out.len());
-    from + copy_in(&mut out[from..], text)
+// A lent buffer, and the place where the next text goes.
+#[derive(Drop)]
+pub struct Line<'a> {
+    pub out: &'a mut [u8],
+    pub at: usize,
 }
 
-pub fn put_byte(out: &mut [u8], at: usize, b: u8) -> usize
-    ensures { Written out.old out.new at result (b ∷ []) }
-{
-    put(out, at, &[b])
-}
+impl<'a> Line<'a> {
+    // An empty line at the front of a buffer.
+    pub fn new(out: &'a mut [u8]) -> Line<'a>
+        ensures same_buffer { result.out.ghost_name ≡ out.entry.ghost_name }
+        ensures content { result.out.now ≡ out.old }
+        ensures place { result.at ≡ 0 }
+    {
+        Line { out, at: 0 }
+    }
 
-pub fn put_bit(out: &mut [u8], at: usize, b: bool) -> usize
-    ensures { Written out.old out.new at result (bit_text b) }
-{
-    put_byte(out, at, b'0' + b as u8)
-}
+    // What stands on it.
+    pub fn text(&self) -> &[u8]
+        ensures holds { result.now ≡ part_of 0 self.now.at self.now.out.now }
+        ensures lies { result.ref_ptr ≡ self.now.out.ref_ptr }
+    {
+        part(self.out, 0, self.at)
+    }
 
-// In decimal.
-pub fn put_number(out: &mut [u8], at: usize, n: u64) -> usize
-    ensures { Written out.old out.new at result (decimal n) }
-{
-    let digit = (n % 10) as u8 + b'0';
-    if n < 10 {
-        put_byte(out, at, digit)
-    } else {
-        let next = put_number(out, at, n / 10);
-        put_byte(out, next, digit)
+    #[tactic(auto, using(crate::proofs::Writing::laid))]
+    pub fn put(&mut self, text: &[u8])
+        ensures { Puts self.old self.new text.now }
+    {
+        let from = self.at.min(self.out.len());
+        self.at = from + copy_in(&mut self.out[from..], text);
+    }
+
+    pub fn put_byte(&mut self, b: u8)
+        ensures { Puts self.old self.new (b ∷ []) }
+    {
+        self.put(&[b]);
+    }
+
+    pub fn put_bit(&mut self, b: bool)
+        ensures { Puts self.old self.new (bit_text b) }
+    {
+        self.put_byte(b'0' + b as u8);
+    }
+
+    // In decimal.
+    pub fn put_number(&mut self, n: u64)
+        ensures { Puts self.old self.new (decimal n) }
+    {
+        if n >= 10 {
+            self.put_number(n / 10);
+        }
+        self.put_byte((n % 10) as u8 + b'0');
+    }
+
+    // In hexadecimal, two digits a byte.
+    pub fn put_hex(&mut self, bytes: &[u8])
+        ensures { Puts self.old self.new (hex bytes.now) }
+    {
+        self.put(b"");
+        for b in bytes {
+            self.put_hex_byte(*b);
+        }
+    }
+
+    fn put_hex_byte(&mut self, b: u8)
+        ensures { Puts self.old self.new (hex_byte b) }
+    {
+        self.put(&[hex_digit(b / 16), hex_digit(b % 16)]);
+    }
+
+    // In hexadecimal, `-` for no byte.
+    pub fn put_bytes(&mut self, bytes: &[u8])
+        ensures { Puts self.old self.new (bytes_text bytes.now) }
+    {
+        if bytes.is_empty() {
+            self.put_byte(b'-');
+        } else {
+            self.put_hex(bytes);
+        }
     }
 }
 
@@ -44,32 +96,4 @@ fn hex_digit(d: u8) -> u8
     ensures { result ≡ hex_digit d }
 {
     if d < 10 { d + b'0' } else { d - 10 + b'A' }
-}
-
-fn put_hex_byte(out: &mut [u8], at: usize, b: u8) -> usize
-    ensures { Written out.old out.new at result (hex_byte b) }
-{
-    put(out, at, &[hex_digit(b / 16), hex_digit(b % 16)])
-}
-
-// In hexadecimal, two digits a byte.
-pub fn put_hex(out: &mut [u8], at: usize, bytes: &[u8]) -> usize
-    ensures { Written out.old out.new at result (hex bytes.now) }
-{
-    let mut next = at.min(out.len());
-    for b in bytes {
-        next = put_hex_byte(out, next, *b);
-    }
-    next
-}
-
-// In hexadecimal, `-` for no byte.
-pub fn put_bytes(out: &mut [u8], at: usize, bytes: &[u8]) -> usize
-    ensures { Written out.old out.new at result (bytes_text bytes.now) }
-{
-    if bytes.is_empty() {
-        put_byte(out, at, b'-')
-    } else {
-        put_hex(out, at, bytes)
-    }
 }

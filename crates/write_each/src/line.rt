@@ -1,21 +1,21 @@
 // The line of a message: what the writer answered, and every byte of the buffer that it was lent.
 use packet::Refusal;
 use show::refusal_line;
-use text::{put, put_byte, put_bytes, put_number};
+use text::Line;
 
-pub(crate) fn put_line(out: &mut [u8], written: Result<usize, Refusal>, lent: &[u8]) -> usize {
-    let at = put_answer(out, written);
-    let at = put_byte(out, at, b' ');
-    let at = put_bytes(out, at, lent);
-    put_byte(out, at, b'\n')
+pub(crate) fn put_line(line: &mut Line, written: Result<usize, Refusal>, lent: &[u8]) {
+    put_answer(line, written);
+    line.put_byte(b' ');
+    line.put_bytes(lent);
+    line.put_byte(b'\n');
 }
 
-fn put_answer(out: &mut [u8], written: Result<usize, Refusal>) -> usize {
+fn put_answer(line: &mut Line, written: Result<usize, Refusal>) {
     match written {
         Ok(n) => {
-            let at = put(out, 0, b"ok ");
-            put_number(out, at, n as u64)
+            line.put(b"ok ");
+            line.put_number(n as u64);
         }
-        Err(r) => refusal_line(out, r),
+        Err(r) => refusal_line(line, r),
     }
 }

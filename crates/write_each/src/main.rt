@@ -10,6 +10,7 @@ use crate::record::{Record, audio_length, room, write};
 use base::part;
 use std::array;
 use std::io::{self, Read};
+use text::Line;
 
 // The next record; none where the input ends before it is whole.
 fn next(input: &mut impl Read) -> io::Result<Option<Record>> {
@@ -23,9 +24,10 @@ fn answer(rt: &impl Print, record: &Record, sound: &[u8]) -> io::Result<()> {
     let lent = &mut space[0..room(record)];
     let written = write(record, part(sound, 0, audio_length(record)), lent);
     // The longest line has 1,044 bytes with its end.
-    let mut line = [0u8; 1056];
-    let end = put_line(&mut line, written, lent);
-    rt.write_all(part(&line, 0, end))
+    let mut room = [0u8; 1056];
+    let mut line = Line::new(&mut room);
+    put_line(&mut line, written, lent);
+    rt.write_all(line.text())
 }
 
 // The audio of every message is the front of this.

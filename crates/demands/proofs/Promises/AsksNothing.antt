@@ -127,12 +127,14 @@ asks_nothing_sending = record {
 
 pub asks_nothing_text : AsksNothingText
 asks_nothing_text = record {
+  new = λ k a. nothing;
   put_byte = λ k a. nothing;
   put = λ k a. nothing;
   put_bit = λ k a. nothing;
   put_number = λ k a. nothing;
   put_hex = λ k a. nothing;
   put_bytes = λ k a. nothing;
+  text = λ k a. nothing;
 }
 
 pub asks_nothing_words : AsksNothingWords

@@ -3,11 +3,12 @@ use Prim.Native.Nat.{ℕ}
 use mathlib.Core.Path.{◌≡◌, refl, ap, ap₂, sym, ◌∙◌}
 use mathlib.Core.List.{List}
 use denote.Ref.{Bor}
-use Rattle.text.specs.Text.{Written}
+use Rattle.text.specs.declared.out.Line.{Line}
+use Rattle.text.specs.Lines.{Puts}
 use Rattle.text.proofs.Writing.{written_once}
 use Rattle.record.specs.declared.whole.Answered.{Answered}
 use Rattle.sending.specs.declared.sending.Ticked.{Ticked}
-use Rattle.demands.specs.Tight.{TightBase, TightPacket, TightItems, TightReader, TightWriter, TightRecord, TightSeats, TightAir, TightHearing, TightFraming, TightReporting, TightSending, TightText, TightWords, TightShow, TightGrammar, Tight}
+use Rattle.demands.specs.Tight.{SameLine, TightBase, TightPacket, TightItems, TightReader, TightWriter, TightRecord, TightSeats, TightAir, TightHearing, TightFraming, TightReporting, TightSending, TightText, TightWords, TightShow, TightGrammar, Tight}
 use Rattle.packet.proofs.TellApart.{answer_tells}
 
 -- the promise is an equation for the result
@@ -22,9 +23,9 @@ told {r = r} {s = s} tells p q = tells r s (p ∙ sym q)
 same_place : (r s : Bor (List ℕ)) {block at : ℕ} → (r.ref_ptr.0 ≡ block) × (r.ref_ptr.1 ≡ at) → (s.ref_ptr.0 ≡ block) × (s.ref_ptr.1 ≡ at) → r.ref_ptr ≡ s.ref_ptr
 same_place r s p q = ap₂ (λ a i. (a, i)) (meet p.0 q.0) (meet p.1 q.1)
 
--- it is a text written from a place on
-written : {out left other text : List ℕ} {at r s : ℕ} → Written out left at r text → Written out other at s text → (r ≡ s) × (left ≡ other)
-written p q = let z = written_once p q in (z.1, z.0)
+-- it is a text put on a line
+put_once : {l m n : Line} {t : List ℕ} → Puts l m t → Puts l n t → SameLine m n
+put_once p q = let z = written_once p.text q.text in (z.1, z.0, meet p.same_buffer q.same_buffer)
 
 -- Of each call: its answer, told apart, and the bench beside it.
 answered_once : {A : Type 0} {r s : Answered A} → r.answer ≡ s.answer → r.bench ≡ s.bench → r ≡ s
@@ -150,12 +151,14 @@ tight_sending = record {
 
 pub tight_text : TightText
 tight_text = record {
-  put_byte = λ k a r s d e. written;
-  put = λ k a r s d e. written;
-  put_bit = λ k a r s d e. written;
-  put_number = λ k a r s d e. written;
-  put_hex = λ k a r s d e. written;
-  put_bytes = λ k a r s d e. written;
+  new = λ k a r s d e p q. (meet p.1.1 q.1.1, meet p.1.0 q.1.0, meet p.0 q.0);
+  put = λ k a r s d e. put_once;
+  put_byte = λ k a r s d e. put_once;
+  put_bit = λ k a r s d e. put_once;
+  put_number = λ k a r s d e. put_once;
+  put_hex = λ k a r s d e. put_once;
+  put_bytes = λ k a r s d e. put_once;
+  text = λ k a r s d e p q. (meet p.0 q.0, meet p.1 q.1);
 }
 
 pub tight_words : TightWords
@@ -176,12 +179,12 @@ tight_words = record {
 
 pub tight_show : TightShow
 tight_show = record {
-  tx_line = λ k a r s d e. written;
-  rx_line = λ k a r s d e. written;
-  refused_line = λ k a r s d e. written;
-  refusal_line = λ k a r s d e. written;
-  answer_line = λ k a r s d e. written;
-  decode = λ k a r s d e. written;
+  tx_line = λ k a r s d e. put_once;
+  rx_line = λ k a r s d e. put_once;
+  refused_line = λ k a r s d e. put_once;
+  refusal_line = λ k a r s d e. put_once;
+  answer_line = λ k a r s d e. put_once;
+  decode = λ k a r s d e. put_once;
 }
 
 pub tight_grammar : TightGrammar

@@ -1,4 +1,4 @@
-use Rattle.text.proofs.Writing.{◌then◌}
+use Rattle.text.proofs.Writing.{◌and◌}
 use Rattle.show.specs.Lines.{rx_line}
 use Rattle.show.proofs.Bits.{bit_is_number}
 use Rattle.show.proofs.line.rx_line.Goals as goal
@@ -7,12 +7,12 @@ pub returns : goal.returns
 unfolding rx_line
 returns c =
     simp bit_is_number at
-    (c.put_head-at.ensures
-    then c.named-at.ensures
-    then c.named-at-2.ensures
-    then c.named-at-3.ensures
-    then c.named-at-4.ensures
-    then c.named-at-5.ensures
-    then c.put_sqi-at.ensures
-    then c.put_side-at.ensures
-    then c.named.ensures)
+    (c.put_head.ensures
+    and c.named.ensures
+    and c.named-2.ensures
+    and c.named-3.ensures
+    and c.named-4.ensures
+    and c.named-5.ensures
+    and c.put_sqi.ensures
+    and c.put_side.ensures
+    and c.named-6.ensures)

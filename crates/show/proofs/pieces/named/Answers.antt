@@ -1,5 +1,5 @@
-use Rattle.text.proofs.Writing.{◌then◌}
+use Rattle.text.proofs.Writing.{◌and◌}
 use Rattle.show.proofs.pieces.named.Goals as goal
 
 pub returns : goal.returns
-returns c = c.put-next.ensures then c.put_number.ensures
+returns c = c.put.ensures and c.put_number.ensures
