@@ -7,7 +7,6 @@ use native.Mathlib.Omega.{arith}
 use lib.Dec.{eqb}
 use lib.IntN.{ℤ, pos, ◌+ℤ◌, +ℤ_idl, +ℤ_idr, +ℤ_assoc}
 use lib.ListN.{length, length-append}
-use borrow.Author.Tests.{eqb-true}
 use Rattle.base.specs.Order.{centred, distance, late, missing}
 use Rattle.base.proofs.OrderLaws.{missing_is}
 use Rattle.packet.specs.Refusals.{NoCase, Answer, accepted, refused}
@@ -57,10 +56,7 @@ sums_opened call period multiplier ssrc = record { total = refl; many = refl; en
 -- the first packet counts 1, whatever its number
 sums_first : (s : Seat) (m : Tx) → Sums [] s → Sums (m.sequence ∷ []) (heard_seat s m)
 unfolding heard_seat totals_after missing account distances newest
-sums_first s m sums =
-    let none : s.totals.heard + s.totals.missing ≡ 0 = cc sums.total in
-    let one : s.totals.heard + 1 + (s.totals.missing + 0) ≡ 1 = omega arith in
-    record { total = simp sums.ends (ap pos one); many = omega (arith, sums.many); ends = (refl, refl) }
+sums_first s m sums = grind arith
 
 -- a later one is added at the end of a history
 newest_added : (first : ℕ) (later : List ℕ) (new : ℕ) → newest first (later ++ new ∷ []) ≡ new
@@ -84,22 +80,11 @@ module _ (first : ℕ) (later : List ℕ) (s : Seat) (m : Tx) (sums : Sums (firs
   lost = missing_before s.heard m
 
   its_distance : pos (lost + 1) ≡ distance (newest first later) m.sequence
-  its_distance =
-      rw sums.ends.0 (missing_is s.heard.sequence m.sequence (rw sums.ends.0 at in_order))
-      ∙ ap (λ (last : ℕ). distance last m.sequence) sums.ends.1
+  its_distance = grind (arith, missing_is)
 
   sums_later : Sums (first ∷ later ++ m.sequence ∷ []) (heard_seat s m)
   unfolding heard_seat totals_after
-  sums_later =
-      let added : s.totals.heard + 1 + (s.totals.missing + lost) ≡ s.totals.heard + s.totals.missing + (lost + 1) = omega arith in
-      record {
-        total =
-            ap pos added ∙ ap (λ (z : ℤ). pos (s.totals.heard + s.totals.missing) +ℤ z) its_distance
-            ∙ ap (λ (z : ℤ). z +ℤ distance (newest first later) m.sequence) sums.total
-            ∙ sym (account_added first later m.sequence);
-        many = omega (arith, sums.many, length-append later (m.sequence ∷ []));
-        ends = (refl, sym (newest_added first later m.sequence));
-      }
+  sums_later = grind (arith, account_added, its_distance, length-append, newest_added)
 
 sums_heard : (history : List ℕ) (s : Seat) (m : Tx) → late s.heard.any s.heard.sequence m.sequence ≡ false → Sums history s
     → Sums (history ++ m.sequence ∷ []) (heard_seat s m)
@@ -123,11 +108,7 @@ sums_ticked history ms s sums =
 -- the seat that a call names, or another
 named : (m n : ℕ) (old new : List ℕ) (s next : Seat) → SumsOpen old s → (n ≡ m → SumsOpen new next)
     → SumsOpen (cond (eqb n m) new old) (cond (eqb n m) next s)
-named m n old new s next others its = by_name (eqb n m) refl
-  where
-    by_name : (t : Bool) → eqb n m ≡ t → SumsOpen (cond t new old) (cond t next s)
-    by_name true e = its (eqb-true n m e)
-    by_name false e = others
+named m n old new s next others its = grind arith
 
 module _ (b : Bench) (n : ℕ) (history : List ℕ) (sums : SumsOpen history (seat_of b.seats n)) where
   abbrev s : Seat
@@ -170,8 +151,7 @@ sums_call n b c history eight sums = by_answer (keeping b c).answer refl
 noted_first : (n : ℕ) (history : List ℕ) (c : Call) (rest : List Call) (t : Bool)
     → noted_through n (cond t (noted n history c) history) rest ≡ noted_through n history (cond t (c ∷ rest) rest)
 unfolding noted_through
-noted_first n history c rest true = refl
-noted_first n history c rest false = refl
+noted_first n history c rest t = grind arith
 
 sums_run : (n : ℕ) (b : Bench) (cs : List Call) (history : List ℕ) → length b.seats ≡ 8 → SumsOpen history (seat_of b.seats n)
     → SumsOpen (noted_through n history (accepted_calls keeping b cs)) (seat_of (after keeping b cs).seats n)

@@ -1,10 +1,10 @@
 -- The air in the record is right from the start through every call.
+use native.Mathlib.Omega.{arith}
 use Prim.Native.Nat.{ℕ}
 use mathlib.Core.Path.{◌≡◌, refl, sym, subst, ◌∙◌}
 use mathlib.Core.List.{List}
 use mathlib.Core.Logic.{◌⊎◌, inl, inr}
-use Rattle.packet.specs.Refusals.{NoCase, Answer, accepted, refused, mapped}
-use Rattle.packet.proofs.Judged.{never}
+use Rattle.packet.specs.Refusals.{NoCase, Answer, accepted, mapped}
 use Rattle.packet.specs.Messages.{from_rx}
 use Rattle.writer.specs.Writing.{encode}
 use Rattle.record.specs.Record.{fresh_bench}
@@ -48,8 +48,7 @@ by_report b n timestamp sound room =
     after_call (λ (x : Bench). x.air ≡ b.air) b (report n timestamp sound room) refl (λ none. unfold reported_bench in refl)
 
 was_written : (answer : Answer ℕ) (sent bytes : List ℕ) → mapped (λ (long : ℕ). written sent) answer ≡ accepted (written bytes) → bytes ≡ sent
-was_written (accepted long) sent bytes e = cc
-was_written (refused n cause) sent bytes e = absurd (never (written bytes) n cause (sym e))
+was_written answer sent bytes e = grind arith
 
 report_tells : (b : Bench) (n timestamp : ℕ) (sound bytes : List ℕ) (room : ℕ)
     → (keeping b (report n timestamp sound room)).answer ≡ accepted (written bytes) → bytes ≡ encode b.setup.ext (from_rx (report_of b n timestamp)) sound

@@ -1,20 +1,18 @@
 -- A tick writes, and leaves, what single reports to the due seats would.
 use Prim.Native.Nat.{ℕ, suc, ◌+◌, ◌≤◌, ◌<◌}
-use mathlib.Core.Path.{◌≡◌, refl, sym, ap, ◌∙◌}
+use mathlib.Core.Path.{◌≡◌, refl, ap, ◌∙◌}
 use mathlib.Core.Bool.{Bool, true, false}
 use mathlib.Core.List.{List, [], ◌∷◌, ◌++◌}
 use native.Mathlib.Omega.{arith}
-use lib.ListN.{length, drop, get_or}
-use Rattle.packet.specs.Refusals.{Answer, accepted}
+use lib.ListN.{length, get_or}
+use Rattle.packet.specs.Refusals.{accepted}
 use Rattle.packet.proofs.Judged.{accepts}
 use Rattle.framing.specs.Framing.{framed}
-use Rattle.writer.specs.Writing.{filled}
 use Rattle.record.specs.Record.{seat_of}
-use Rattle.seats.specs.Ticking.{due_seats}
-use Rattle.reporting.specs.Reporting.{report_bytes, report_refusals, report_said, reported_bench}
-use Rattle.sending.specs.Sending.{after_closings, tick_refusals, sent_bytes, tick_said, tick_buffer}
+use Rattle.reporting.specs.Reporting.{report_bytes, report_said, reported_bench}
+use Rattle.sending.specs.Sending.{tick_said, tick_buffer}
 use Rattle.sending.proofs.Singles.{single_frames, after_singles, due_are_open, single_accepted, sent_as_singles, left_as_singles}
-use Rattle.bench.specs.Step.{tick, report, written, Outcome, outcome, does, keeping, after}
+use Rattle.bench.specs.Step.{report, written, Outcome, does, keeping, after}
 use Rattle.record.specs.declared.whole.Bench.{Bench}
 use Rattle.demands.specs.AsSingles.{singles, frame_of, frames_by, AsSingles}
 use Rattle.demands.proofs.Demand1.Calls.{accepted_bench}
@@ -35,9 +33,7 @@ module _ (timestamp room : ℕ) (enough : 24 ≤ room) where
   single : (b : Bench) (n : ℕ) → (seat_of b.seats n).opened ≡ true
       → keeping b (report n timestamp [] room) ≡ record { answer = accepted (written (report_bytes b n timestamp [])); bench = reported_bench b n }
   unfolding does report_said
-  single b n up =
-      ap (λ (a : Answer ℕ). outcome a (λ k. written (report_bytes b n timestamp [])) b (reported_bench b n))
-      (accepts _ (report_refusals b n timestamp [] room) (single_accepted b n timestamp room up enough))
+  single b n up = grind (arith, accepts, single_accepted)
 
   -- and all of them one after the other
   singles_write : (b : Bench) (n : ℕ) (due : List Bool) → Opened b n due → frames_by b (singles timestamp room n due) ≡ single_frames b timestamp n due
@@ -58,15 +54,4 @@ module _ (timestamp room : ℕ) (enough : 24 ≤ room) where
 
 pub as_singles : AsSingles
 unfolding tick_said tick_buffer
-as_singles b ms timestamp room buffer eight enough none =
-    let up = due_are_open b ms eight in
-    let sent = sent_as_singles b ms timestamp ∙ sym (singles_write timestamp room enough (after_closings b ms) 1 (due_seats b ms) up) in
-    record {
-      bytes =
-          ap (λ (a : Answer ℕ). filled a (sent_bytes b ms timestamp) buffer) (accepts _ (tick_refusals ms (length buffer)) none)
-          ∙ ap (λ (x : List ℕ). x ++ drop (length x) buffer) sent;
-      bench =
-          accepted_bench b (tick ms timestamp (length buffer)) none
-          ∙ left_as_singles b ms eight
-          ∙ sym (singles_leave timestamp room enough (after_closings b ms) 1 (due_seats b ms) up);
-    }
+as_singles b ms timestamp room buffer eight enough none = grind (arith, accepted_bench, accepts, due_are_open, left_as_singles, sent_as_singles, singles_leave, singles_write)

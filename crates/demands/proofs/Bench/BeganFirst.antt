@@ -7,14 +7,12 @@ use mathlib.Core.Logic.{◌↔◌}
 use native.Mathlib.Omega.{arith}
 use lib.Dec.{ltb, eqb}
 use lib.ListN.{length}
-use borrow.Author.Tests.{ltb-true, ltb-false, lt-ltb, le-leb}
+use borrow.Author.Tests.{ltb-true, ltb-false}
 use Rattle.packet.specs.Refusals.{NoCase, Answer, accepted, refused}
 use Rattle.record.specs.Record.{closed_seat, fresh_bench, seat_of}
-use Rattle.record.proofs.Seats.{seat_in_range, open_is_seat, seat_of_eight_closed}
+use Rattle.record.proofs.Seats.{open_is_seat, seat_of_eight_closed}
 use Rattle.seats.specs.Opening.{closed_bench}
-use Rattle.seats.specs.Ticking.{nothing_left, aged, ticked_seat, ticked_bench}
-use Rattle.air.specs.Air.{keyed, takes_part}
-use Rattle.air.proofs.InWords.{part_is}
+use Rattle.seats.specs.Ticking.{ticked_seat, ticked_bench}
 use Rattle.bench.specs.Step.{Call, opening, closing, packet, tick, report, received, transmitter, side, totals, Said, keeping, after, was_accepted, accepted_calls}
 use Rattle.record.specs.declared.setup.Setup.{Setup}
 use Rattle.record.specs.declared.seat.Seat.{Seat}
@@ -37,17 +35,10 @@ use Rattle.demands.proofs.Bench.Spells.{no_spell, Ledger, left_alone, opened_led
 
 tick_field : (ms : ℕ) (s : Seat) → (ticked_seat ms s).opened ≡ true → (s.opened ≡ true) × ((ticked_seat ms s).heard.field ≡ s.heard.field)
 unfolding ticked_seat
-tick_field ms s = by_tests s.opened (nothing_left ms s) refl
-  where
-    by_tests : (a c : Bool) → s.opened ≡ a → (cond a (cond c closed_seat (aged ms s)) s).opened ≡ true
-        → (s.opened ≡ true) × ((cond a (cond c closed_seat (aged ms s)) s).heard.field ≡ s.heard.field)
-    by_tests true true e up = absurd (false≢true up)
-    by_tests true false e up = (e, refl)
-    by_tests false c e up = (up, refl)
+tick_field ms s = grind arith
 
 close_field : (t : Bool) (s : Seat) → (cond t closed_seat s).opened ≡ true → (s.opened ≡ true) × ((cond t closed_seat s).heard.field ≡ s.heard.field)
-close_field true s up = absurd (false≢true up)
-close_field false s up = (up, refl)
+close_field t s up = grind arith
 
 call_ledger : (b : Bench) (c : Call) (i : ℕ) (spells : ℕ → Spell) → length b.seats ≡ 8 → Counted b → Ledger b i spells → (said : Said) → (keeping b c).answer ≡ accepted said
     → Ledger (keeping b c).bench (suc i) (λ n. spell_after n i (spells n) c)
@@ -86,12 +77,7 @@ run_ledger b (c ∷ cs) i spells eight counted old =
 
 start_ledger : (setup : Setup) → Ledger (fresh_bench setup) 1 (λ n. no_spell 0)
 unfolding fresh_bench
-start_ledger setup =
-    record {
-      typed = λ n up. absurd (false≢true (sym (ap (λ (s : Seat). s.opened) (seat_of_eight_closed n)) ∙ up));
-      early = λ n. omega arith;
-      ordered = λ j k a d f g x y l. absurd (x refl);
-    }
+start_ledger setup = grind (arith, seat_of_eight_closed)
 
 module _ (setup : Setup) (run : List Call) where
   abbrev now : Bench
@@ -101,29 +87,13 @@ module _ (setup : Setup) (run : List Call) where
   ledger = run_ledger (fresh_bench setup) run 1 (λ n. no_spell 0) (unfold fresh_bench in refl) (counted_fresh setup) (start_ledger setup)
 
   is_keyed : (n : ℕ) → TakesPart now n → (spell_of n setup run).type ≡ (last_field now n).ptt
-  is_keyed n p =
-      ledger.1.typed n p.is_open
-      ∙ simp (p.unmuted, lt-ltb 0 (last_field now n).ptt p.not_off, le-leb (last_field now n).ptt 5 p.known)
+  is_keyed n p = grind (arith, ledger)
 
   takes_part_lem : (n : ℕ) → TakesPart now n ↔ ((now.healthy ≡ true) × ((seat_of now.seats n).opened ≡ true) × (1 ≤ (spell_of n setup run).type))
-  takes_part_lem n = (
-    λ p. (p.healthy, p.is_open, (let e = is_keyed n p in let l = p.not_off in omega arith)),
-    λ h. part_is now n (keys_on n h.0 h.1 (keyed (last_field now n)) refl (let e = ledger.1.typed n h.1 in let l = h.2 in omega arith)),
-  )
-    where
-      keys_on : (n : ℕ) → now.healthy ≡ true → (seat_of now.seats n).opened ≡ true → (t : Bool) → keyed (last_field now n) ≡ t → 1 ≤ cond t (last_field now n).ptt 0
-          → takes_part now.healthy (seat_of now.seats n) ≡ true
-      keys_on n healthy up true e l = unfold takes_part in simp (healthy, up, e)
-      keys_on n healthy up false e l = absurd (omega arith)
-
-  keys_some : (n : ℕ) → TakesPart now n → (spell_of n setup run).type ≡ 0 → ⊥
-  keys_some n p z = let e = is_keyed n p in let l = p.not_off in omega arith
+  takes_part_lem n = grind (arith, ledger)
 
   is_earlier : (m n : ℕ) → TakesPart now m → TakesPart now n → (spell_of m setup run).since < (spell_of n setup run).since → place_of m now.order < place_of n now.order
-  is_earlier m n p q l =
-      let r = seat_in_range m (open_is_seat now.seats m p.is_open) in
-      let s = seat_in_range n (open_is_seat now.seats n q.is_open) in
-      ledger.1.ordered m n r.0 r.1 s.0 s.1 (keys_some m p) (keys_some n q) l
+  is_earlier m n p q l = grind (arith, ledger, open_is_seat)
 
   is_first : (n : ℕ) → setup.equal_summation ≡ false → Leads now n → (m : ℕ) → TakesPart now m → (last_field now m).ptt ≡ (last_field now n).ptt
       → (spell_of n setup run).since ≤ (spell_of m setup run).since

@@ -4,16 +4,15 @@ use mathlib.Core.Path.{◌≡◌, refl, sym, ap, subst, ◌∙◌}
 use mathlib.Core.Bool.{Bool, true, false, cond, false≢true}
 use mathlib.Core.List.{List, [], ◌∷◌}
 use native.Mathlib.Omega.{arith}
-use native.Mathlib.Nat.{add-zero, zero-add}
+use native.Mathlib.Nat.{add-zero}
 use lib.Dec.{eqb}
 use lib.ListN.{length}
-use borrow.Author.Tests.{leb-false, eqb-true}
 use Rattle.base.proofs.Truths.{or_left, or_right}
 use Rattle.packet.specs.Refusals.{NoCase, Answer, accepted, refused}
 use Rattle.record.specs.Record.{closed_seat, opened_seat, seat_of, fresh_bench}
 use Rattle.record.proofs.Seats.{seat_of_eight_closed}
 use Rattle.seats.specs.Opening.{call_code}
-use Rattle.seats.specs.Ticking.{nothing_left, is_due, ticked_seat}
+use Rattle.seats.specs.Ticking.{is_due, ticked_seat}
 use Rattle.seats.proofs.Accepted.{open_accepted}
 use Rattle.seats.proofs.TickingLaws.{ticked_cases}
 use Rattle.seats.proofs.TwoTicks.{phase_goes_on}
@@ -46,13 +45,7 @@ stands s below = record { below = omega arith; phase = sym (add-zero s.phase); p
 -- a tick that leaves it open and finds it not due
 ticked_waits : (ms : ℕ) (s : Seat) → s.opened ≡ true → (ticked_seat ms s).opened ≡ true → is_due ms s ≡ false → Waits ms s (ticked_seat ms s)
 unfolding ticked_seat is_due
-ticked_waits ms s is_open up not_due = by_left (nothing_left ms s) refl
-  where
-    by_left : (silent : Bool) → nothing_left ms s ≡ silent → Waits ms s (ticked_seat ms s)
-    by_left true e = absurd (false≢true (simp (is_open, e) at up))
-    by_left false e =
-        let below : s.phase + ms < s.period = leb-false _ _ (simp (is_open, e) at not_due) in
-        simp (is_open, e) (record { below = below; phase = phase_goes_on ms s.period s.phase below; period = refl })
+ticked_waits ms s is_open up not_due = grind (arith, phase_goes_on)
 
 -- ---- one call
 
@@ -62,11 +55,7 @@ module _ (n : ℕ) (b : Bench) (eight : length b.seats ≡ 8) (below : (seat_of 
 
   -- the seat that a call names, or another
   named : (m : ℕ) (next : Seat) → (n ≡ m → Waits 0 s next) → Waits 0 s (cond (eqb n m) next s)
-  named m next its = by_name (eqb n m) refl
-    where
-      by_name : (t : Bool) → eqb n m ≡ t → Waits 0 s (cond t next s)
-      by_name true e = its (eqb-true n m e)
-      by_name false e = stands s below
+  named m next its = grind arith
 
   waits_accepted : (c : Call) → NoCase (refusals_of b c) → (seat_after c n s).opened ≡ true → names_due n (accepted (said_by b c)) ≡ false
       → Waits (elapsed c) s (seat_after c n s)
@@ -115,8 +104,7 @@ PhaseBelow n b = (seat_of b.seats n).phase < (seat_of b.seats n).period
 
 summed_first : (c : Call) (rest : List Call) (t : Bool) → summed (cond t (c ∷ rest) rest) ≡ cond t (elapsed c) 0 + summed rest
 unfolding summed
-summed_first c rest true = refl
-summed_first c rest false = sym (zero-add (summed rest))
+summed_first c rest t = grind arith
 
 waiting : (n : ℕ) (cs : List Call) (b : Bench) → length b.seats ≡ 8 → PhaseBelow n b → StaysOpen n b cs → ever_due n b cs ≡ false
     → (seat_of b.seats n).phase + summed (accepted_calls keeping b cs) < (seat_of b.seats n).period
@@ -137,11 +125,7 @@ waiting n (c ∷ cs) b eight below stays none_due =
 
 from_any : (b : Bench) (cs : List Call) (n : ℕ) → length b.seats ≡ 8 → PhaseBelow n b → StaysOpen n b cs
     → (seat_of b.seats n).period ≤ summed (accepted_calls keeping b cs) → ever_due n b cs ≡ true
-from_any b cs n eight below stays enough = by_due (ever_due n b cs) refl
-  where
-    by_due : (t : Bool) → ever_due n b cs ≡ t → t ≡ true
-    by_due true e = refl
-    by_due false e = absurd (let early = waiting n cs b eight below stays e in omega arith)
+from_any b cs n eight below stays enough = grind (arith, waiting)
 
 -- ---- the benches that calls lead to
 

@@ -1,21 +1,21 @@
 -- The invariant from the start through every call.
-use Prim.Native.Nat.{ℕ, ◌-◌, ◌%◌, ◌<◌}
+use Prim.Native.Nat.{ℕ, ◌-◌, ◌<◌}
 use mathlib.Core.Path.{◌≡◌, refl, ap, sym, ◌∙◌, subst, subst₂}
-use mathlib.Core.Bool.{Bool, true, false, false≢true, cond}
+use mathlib.Core.Bool.{Bool, true, false, cond}
 use mathlib.Core.List.{List, [], ◌∷◌}
 use native.Mathlib.Omega.{arith}
 use lib.Dec.{eqb}
 use lib.ListN.{length, get_or}
 use borrow.Author.Tests.{eqb-true}
 use Rattle.base.specs.Lists.{how_many}
-use Rattle.base.proofs.Places.{set_cases, all_alike}
+use Rattle.base.proofs.Places.{set_cases}
 use Rattle.packet.specs.Refusals.{NoCase}
 use Rattle.packet.specs.declared.message.Tx.{Tx}
-use Rattle.record.specs.Kind.{kind_of, has_one_side}
+use Rattle.record.specs.Kind.{kind_of}
 use Rattle.record.specs.Record.{closed_seat, opened_seat, fresh_bench, with_entry, seat_of}
-use Rattle.seats.specs.Opening.{call_code, asks_coupling, holds_coupling, opened_bench, closed_bench}
-use Rattle.seats.specs.Ticking.{ticked_seat, due_seats, ticked_bench}
-use Rattle.hearing.specs.Hearing.{field_heard, heard_seat, heard_bench, message_in}
+use Rattle.seats.specs.Opening.{holds_coupling, opened_bench, closed_bench}
+use Rattle.seats.specs.Ticking.{ticked_seat, ticked_bench}
+use Rattle.hearing.specs.Hearing.{heard_seat, heard_bench, message_in}
 use Rattle.reporting.specs.Reporting.{reported_bench}
 use Rattle.sending.specs.Sending.{sent_bench}
 use Rattle.bench.specs.Step.{Call, opening, closing, packet, tick, report, received, transmitter, side, totals, keeping, after}
@@ -40,17 +40,7 @@ use Rattle.demands.proofs.Bench.KeptSeats.{closed_seat_kept, opened_seat_kept, h
 
 pub kept_fresh : (setup : Setup) → Kept (fresh_bench setup)
 unfolding fresh_bench
-kept_fresh setup =
-    record {
-      eight_seats = refl;
-      eight_sequences = refl;
-      sequences_fit = λ i. rw (all_alike {A = ℕ} 0 8 i) (omega arith);
-      order_of_eight = refl;
-      order_counts = λ n. refl;
-      each_seat = λ n. rw (seat_of_eight_closed n) (closed_seat_kept setup n);
-      one_coupling = λ m n e f. absurd (let z : ◌≡◌ {A = ℕ} 0 1 = cc (seat_of_eight_closed m) in omega arith);
-      single_on_main = λ e. refl;
-    }
+kept_fresh setup = grind (arith, seat_of_eight_closed)
 
 -- ---- the report sequence numbers
 
@@ -58,19 +48,11 @@ put_fits : (l : List ℕ) (n v i : ℕ) → v < 65536 → ((i : ℕ) → get_or 
 put_fits l n v i small fit =
     put_cases l n (λ q. get_or q i 0 < 65536) v (fit i) (set_cases {A = ℕ} 0 (λ k. k < 65536) l (n - 1) i v (fit i) (λ e. small))
 
-wraps : (n : ℕ) → n % 65536 < 65536
-wraps n = omega arith
-
 -- ---- calls that make no seat Coupling
-
-closed_coupling : (t : Bool) (s : Seat) → holds_coupling (cond t closed_seat s) ≡ true → holds_coupling s ≡ true
-closed_coupling true s e = cc
-closed_coupling false s e = e
 
 heard_coupling : (t : Bool) (s : Seat) (m : Tx) → holds_coupling (cond t (heard_seat s m) s) ≡ true → holds_coupling s ≡ true
 unfolding heard_seat
-heard_coupling true s m e = e
-heard_coupling false s m e = e
+heard_coupling t s m e = grind arith
 
 ticked_coupling : (ms : ℕ) (s : Seat) → holds_coupling (ticked_seat ms s) ≡ true → holds_coupling s ≡ true
 ticked_coupling ms s = ticked_cases (λ t. holds_coupling t ≡ true → holds_coupling s ≡ true) ms s (λ e. cc) (λ is_open younger e. e) (λ e. e)
@@ -79,37 +61,17 @@ ticked_coupling ms s = ticked_cases (λ t. holds_coupling t ≡ true → holds_c
 
 pub order_kept : (b : Bench) (c : Call) → (length (bench_after b c).order ≡ length b.order) × ((test : ℕ → Bool) → how_many test (bench_after b c).order ≡ how_many test b.order)
 unfolding opened_bench closed_bench heard_bench ticked_bench sent_bench reported_bench
-order_kept b (packet n p) = (length_order_after n _ _ b.order, many_order_after n _ _ b.order)
-order_kept b (opening n r) = (refl, λ m. refl)
-order_kept b (closing n) = (refl, λ m. refl)
-order_kept b (tick ms timestamp room) = (refl, λ m. refl)
-order_kept b (report n timestamp sound room) = (refl, λ m. refl)
-order_kept b (received signals level) = (refl, λ m. refl)
-order_kept b (transmitter healthy) = (refl, λ m. refl)
-order_kept b (side standby) = (refl, λ m. refl)
-order_kept b (totals n) = (refl, λ m. refl)
+order_kept b c = grind (arith, length_order_after, many_order_after)
 
 module _ (b : Bench) (kept : Kept b) where
   sequences_kept : (c : Call) → InRange c → (length (bench_after b c).sequences ≡ 8) × ((i : ℕ) → get_or (bench_after b c).sequences i 0 < 65536)
   unfolding opened_bench closed_bench heard_bench ticked_bench sent_bench reported_bench
-  sequences_kept (opening n r) fits =
-      (as_many_entries b.sequences n _ ∙ kept.eight_sequences, λ i. put_fits b.sequences n r.sequence i fits.1 kept.sequences_fit)
-  sequences_kept (report n timestamp sound room) fits =
-      (as_many_entries b.sequences n _ ∙ kept.eight_sequences, λ i. put_fits b.sequences n _ i (wraps _) kept.sequences_fit)
-  sequences_kept (closing n) fits = (kept.eight_sequences, kept.sequences_fit)
-  sequences_kept (packet n p) fits = (kept.eight_sequences, kept.sequences_fit)
-  sequences_kept (tick ms timestamp room) fits =
-      (as_many_numbers (due_seats b ms) b.sequences ∙ kept.eight_sequences, numbers_fit (due_seats b ms) b.sequences kept.sequences_fit)
-  sequences_kept (received signals level) fits = (kept.eight_sequences, kept.sequences_fit)
-  sequences_kept (transmitter healthy) fits = (kept.eight_sequences, kept.sequences_fit)
-  sequences_kept (side standby) fits = (kept.eight_sequences, kept.sequences_fit)
-  sequences_kept (totals n) fits = (kept.eight_sequences, kept.sequences_fit)
+  sequences_kept c fits = grind (arith, as_many_entries, as_many_numbers, numbers_fit, put_fits)
 
   -- ---- each seat
 
   at_named : (m n : ℕ) (s : Seat) (t : Bool) → eqb n m ≡ t → SeatKept b.setup m s → SeatKept b.setup n (cond t s (seat_of b.seats n))
-  at_named m n s true e new = subst (λ (k : ℕ). SeatKept b.setup k s) (sym (eqb-true n m e)) new
-  at_named m n s false e new = kept.each_seat n
+  at_named m n s t e new = grind (arith, eqb-true)
 
   seat_kept : (c : Call) → InRange c → NoCase (refusals_of b c) → (n : ℕ) → SeatKept b.setup n (seat_after c n (seat_of b.seats n))
   seat_kept (opening m r) fits none n =
@@ -134,48 +96,13 @@ module _ (b : Bench) (kept : Kept b) where
   coupling_kept : (c : Call) → NoCase (refusals_of b c) → (m n : ℕ) → holds_coupling (seat_after c m (seat_of b.seats m)) ≡ true
       → holds_coupling (seat_after c n (seat_of b.seats n)) ≡ true → m ≡ n
   unfolding opened_seat
-  coupling_kept (opening k r) none m n e f = by_cases (eqb m k) (eqb n k) refl refl e f
-    where
-      new : Seat
-      new = opened_seat (call_code r.call) r.period r.multiplier r.ssrc
-
-      no_other : asks_coupling r ≡ true → (j : ℕ) → holds_coupling (seat_of b.seats j) ≡ false
-      no_other asks j = none_coupling b.seats j ((open_accepted b.setup k b.seats r none).coupling_free asks)
-
-      by_cases : (s t : Bool) → eqb m k ≡ s → eqb n k ≡ t → holds_coupling (cond s new (seat_of b.seats m)) ≡ true
-          → holds_coupling (cond t new (seat_of b.seats n)) ≡ true → m ≡ n
-      by_cases true true p q e f = eqb-true m k p ∙ sym (eqb-true n k q)
-      by_cases true false p q e f = cc (no_other e n)
-      by_cases false true p q e f = cc (no_other f m)
-      by_cases false false p q e f = kept.one_coupling m n e f
-  coupling_kept (closing k) none m n e f =
-      kept.one_coupling m n (closed_coupling (eqb m k) (seat_of b.seats m) e) (closed_coupling (eqb n k) (seat_of b.seats n) f)
-  coupling_kept (packet k p) none m n e f =
-      kept.one_coupling m n (heard_coupling (eqb m k) (seat_of b.seats m) (message_in p) e) (heard_coupling (eqb n k) (seat_of b.seats n) (message_in p) f)
-  coupling_kept (tick ms timestamp room) none m n e f =
-      kept.one_coupling m n (ticked_coupling ms (seat_of b.seats m) e) (ticked_coupling ms (seat_of b.seats n) f)
-  coupling_kept (report k timestamp sound room) none m n e f = kept.one_coupling m n e f
-  coupling_kept (received signals level) none m n e f = kept.one_coupling m n e f
-  coupling_kept (transmitter healthy) none m n e f = kept.one_coupling m n e f
-  coupling_kept (side standby) none m n e f = kept.one_coupling m n e f
-  coupling_kept (totals k) none m n e f = kept.one_coupling m n e f
+  coupling_kept c none m n e f = grind (arith, heard_coupling, none_coupling, open_accepted, ticked_coupling)
 
   -- ---- the side of a single radio
 
   main_kept : (c : Call) → InRange c → NoCase (refusals_of b c) → kind_of b.setup.kind ≡ Single → (bench_after b c).standby ≡ false
   unfolding opened_bench closed_bench heard_bench heard_seat ticked_bench sent_bench reported_bench
-  main_kept (packet n p) fits none single =
-      let new = heard_seat_kept b.setup n b.seats p (packet_accepted b.setup n (seat_of b.seats n) p none) fits (kept.each_seat n) in
-      side_stays (kind_of b.setup.kind) (seat_of b.seats n).heard.field (field_heard (message_in p)) b.standby (new.field_kept.no_item_single single)
-      ∙ kept.single_on_main single
-  main_kept (side standby) fits none single = absurd (false≢true (sym (side_accepted b.setup none) ∙ ap has_one_side single))
-  main_kept (opening n r) fits none single = kept.single_on_main single
-  main_kept (closing n) fits none single = kept.single_on_main single
-  main_kept (tick ms timestamp room) fits none single = kept.single_on_main single
-  main_kept (report n timestamp sound room) fits none single = kept.single_on_main single
-  main_kept (received signals level) fits none single = kept.single_on_main single
-  main_kept (transmitter healthy) fits none single = kept.single_on_main single
-  main_kept (totals n) fits none single = kept.single_on_main single
+  main_kept c fits none single = grind (arith, heard_seat_kept, packet_accepted, side_accepted, side_stays)
 
   -- ---- all of it
 

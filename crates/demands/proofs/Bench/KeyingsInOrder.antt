@@ -1,11 +1,11 @@
 -- The order of keyings, call by call.
+use native.Mathlib.Omega.{arith}
 use Prim.Native.Nat.{ℕ, ◌≤◌}
 use mathlib.Core.Path.{◌≡◌, refl, sym, ap, subst, ◌∙◌}
 use mathlib.Core.Bool.{false}
 use mathlib.Core.List.{List}
 use lib.Dec.{eqb}
 use lib.ListN.{length}
-use borrow.Author.Tests.{eq-eqb}
 use Rattle.base.specs.Lists.{how_many}
 use Rattle.packet.specs.Refusals.{NoCase, accepted}
 use Rattle.record.specs.Record.{seat_numbers, no_such_seat, fresh_bench, seat_of}
@@ -21,7 +21,6 @@ use Rattle.reporting.specs.Reporting.{reported_bench}
 use Rattle.sending.specs.Sending.{sent_bench}
 use Rattle.bench.specs.Step.{Call, opening, closing, packet, tick, report, received, transmitter, side, totals, Said, keeping, after}
 use Rattle.record.specs.declared.setup.Setup.{Setup}
-use Rattle.record.specs.declared.seat.Seat.{Seat}
 use Rattle.record.specs.declared.whole.Bench.{Bench}
 use Rattle.demands.specs.ExactCalls.{refusals_of}
 use Rattle.demands.specs.KeyingsInOrder.{ByPacket, KeyingsInOrder}
@@ -46,9 +45,7 @@ module _ (b : Bench) (n : ℕ) (p : List ℕ) (said : Said) (e : (keeping b (pac
 
   next_field : length b.seats ≡ 8 → last_field (keeping b (packet n p)).bench n ≡ field_heard (message_in p)
   unfolding heard_seat
-  next_field eight =
-      let next : seat_of (keeping b (packet n p)).bench.seats n ≡ heard_seat (seat_of b.seats n) (message_in p) = seat_after_lem b (packet n p) eight clear n ∙ rw (eq-eqb n n refl) in
-      ap (λ (s : Seat). s.heard.field) next
+  next_field eight = grind (arith, clear, seat_after_lem)
 
   by_packet : length b.seats ≡ 8 → ByPacket n b (keeping b (packet n p)).bench
   by_packet eight =

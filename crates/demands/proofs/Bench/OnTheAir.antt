@@ -6,14 +6,12 @@ use mathlib.Core.List.{List, [], ◌∷◌}
 use mathlib.Core.Logic.{◌↔◌}
 use native.Mathlib.Omega.{arith}
 use lib.Dec.{ltb}
-use borrow.Author.Tests.{not-true}
-use Rattle.base.proofs.Truths.{and_left, and_right, or_true}
+use Rattle.base.proofs.Truths.{or_true}
 use Rattle.record.specs.Record.{seat_numbers, no_such_seat, seat_of, lesson, fresh_bench}
 use Rattle.record.proofs.Seats.{in_range_seat, each_seat, open_is_seat}
 use Rattle.air.specs.Air.{rank, takes_part}
 use Rattle.air.specs.InWords.{EachPlaced, Shows}
 use Rattle.air.proofs.Members.{among_placed}
-use Rattle.air.proofs.RanksInWords.{each_type}
 use Rattle.air.proofs.InWords.{part_is, is_part, shows}
 use Rattle.bench.specs.Step.{Call, keeping, after}
 use Rattle.record.specs.declared.setup.Setup.{Setup}
@@ -36,14 +34,7 @@ in_every_run setup cs =
 -- ---- "While"
 
 above_if : (ptt : ℕ) → 1 ≤ ptt → ptt ≤ 5 → (ltb 1 (rank ptt) ≡ true) ↔ (ptt ≤ 4)
-above_if =
-    each_type (λ ptt. (ltb 1 (rank ptt) ≡ true) ↔ (ptt ≤ 4)) (
-      (λ e. omega arith, λ h. refl),
-      (λ e. omega arith, λ h. refl),
-      (λ e. omega arith, λ h. refl),
-      (λ e. omega arith, λ h. refl),
-      (λ e. absurd (false≢true e), λ h. absurd (omega arith)),
-    )
+above_if = grind arith
 
 module _ (b : Bench) where
   -- the test of one seat
@@ -51,17 +42,7 @@ module _ (b : Bench) where
   is_above n = not (lesson b.setup n) && takes_part b.healthy (seat_of b.seats n) && ltb 1 (rank (ptt_of b n))
 
   above_to : (n : ℕ) → is_above n ≡ true → LiveAbove b
-  above_to n e =
-      let live = not (lesson b.setup n) in
-      let part = takes_part b.healthy (seat_of b.seats n) in
-      let two = and_left (live && part) (ltb 1 (rank (ptt_of b n))) e in
-      let p = part_is b n (and_right live part two) in
-      record {
-        seat = n;
-        live = not-true _ (and_left live part two);
-        part = p;
-        above_test = (above_if (ptt_of b n) p.not_off p.known).0 (and_right (live && part) (ltb 1 (rank (ptt_of b n))) e);
-      }
+  above_to n e = grind (arith, part_is)
 
   above_from : (a : LiveAbove b) → is_above a.seat ≡ true
   above_from a = simp (a.live, is_part b a.seat a.part, (above_if (ptt_of b a.seat) a.part.not_off a.part.known).1 a.above_test)

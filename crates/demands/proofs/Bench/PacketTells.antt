@@ -1,10 +1,8 @@
 -- When a packet is turned away, and what it answers and leaves, in 01's words.
 use Prim.Native.Nat.{ℕ, ◌≤◌}
 use mathlib.Core.Path.{◌≡◌, refl, sym, ap, subst, ◌∙◌}
-use mathlib.Core.Bool.{Bool, true, false, cond, false≢true}
+use mathlib.Core.Bool.{true}
 use mathlib.Core.List.{List, ◌++◌}
-use lib.Dec.{eqb}
-use borrow.Author.Tests.{ne_eqb}
 use native.Mathlib.Omega.{arith}
 use lib.ListN.{length}
 use Rattle.base.specs.Bytes.{Bytes}
@@ -17,9 +15,9 @@ use Rattle.reader.proofs.Passed.{passed}
 use Rattle.packet.specs.declared.message.Direction.TheVariants as direction
 use Rattle.packet.specs.declared.message.Tx.{Tx}
 use Rattle.packet.specs.Messages.{as_tx}
-use Rattle.record.specs.Record.{closed_seat, seat_of}
+use Rattle.record.specs.Record.{seat_of}
 use Rattle.seats.specs.Opening.{seat_refusals}
-use Rattle.seats.specs.Ticking.{nothing_left, aged, ticked_seat}
+use Rattle.seats.specs.Ticking.{ticked_seat}
 use Rattle.seats.specs.InWords.{SeatBarred}
 use Rattle.seats.proofs.InWords.{seat_agrees, seat_range}
 use Rattle.hearing.specs.Hearing.{message_in, message_refusals, packet_refusals, hearing, heard_bench}
@@ -28,7 +26,7 @@ use Rattle.air.specs.Air.{aired}
 use Rattle.hearing.proofs.Accepted.{packet_accepted, type_known}
 use Rattle.hearing.proofs.InWords.{message_agrees, message_range}
 use Rattle.hearing.proofs.HeededInWords.{heeded}
-use Rattle.bench.specs.Step.{Call, opening, closing, packet, tick, report, received, transmitter, side, totals, heard, keeping}
+use Rattle.bench.specs.Step.{Call, opening, packet, heard, keeping}
 use Rattle.record.specs.declared.seat.Seat.{Seat}
 use Rattle.record.specs.declared.whole.Bench.{Bench}
 use Rattle.seats.specs.declared.opening.Request.{Request}
@@ -109,9 +107,7 @@ module _ (b : Bench) (n : ℕ) (p : List ℕ) (h : Hearing) (sound : List ℕ) (
 
   was_read : read_tx b.setup.ext p ≡ accepted (message_in p)
   unfolding packet_refusals seat_refusals
-  was_read =
-      is_read b.setup.ext p
-      (none_of_both (reader_refusals direction.Tx b.setup.ext p) (message_refusals b.setup n (seat_of b.seats n) (message_in p)) clear.1.1).0
+  was_read = grind (arith, clear, is_read, none_of_both)
 
   is_heeded : Heeded b n (message_in p) h (keeping b (packet n p)).bench
   is_heeded =
@@ -128,31 +124,10 @@ module _ (n : ℕ) (s : Seat) where
 
   ticked_keeps : (ms : ℕ) → Kept (ticked_seat ms s)
   unfolding ticked_seat
-  ticked_keeps ms = by_tests s.opened (nothing_left ms s)
-    where
-      by_tests : (a c : Bool) → Kept (cond a (cond c closed_seat (aged ms s)) s)
-      by_tests true true up = absurd (false≢true up)
-      by_tests true false up = (refl, refl)
-      by_tests false c up = (refl, refl)
-
-  -- a call for another seat, or one that closes it
-  closed_keeps : (t : Bool) → Kept (cond t closed_seat s)
-  closed_keeps true up = absurd (false≢true up)
-  closed_keeps false up = (refl, refl)
-
-  other_keeps : (m : ℕ) (next : Seat) → (n ≡ m → ⊥) → Kept (cond (eqb n m) next s)
-  other_keeps m next other = rw (ne_eqb n m other) (λ up. (refl, refl))
+  ticked_keeps ms = grind arith
 
   call_keeps : (c : Call) → ((p : List ℕ) → c ≡ packet n p → ⊥) → ((r : Request) → c ≡ opening n r → ⊥) → Kept (seat_after c n s)
-  call_keeps (opening m r) no-packet no_opening = other_keeps m _ (λ e. no_opening r (ap (λ (k : ℕ). opening k r) (sym e)))
-  call_keeps (closing m) no-packet no_opening = closed_keeps (eqb n m)
-  call_keeps (packet m p) no-packet no_opening = other_keeps m _ (λ e. no-packet p (ap (λ (k : ℕ). packet k p) (sym e)))
-  call_keeps (tick ms timestamp room) no-packet no_opening = ticked_keeps ms
-  call_keeps (report m timestamp sound room) no-packet no_opening = λ up. (refl, refl)
-  call_keeps (received signals level) no-packet no_opening = λ up. (refl, refl)
-  call_keeps (transmitter healthy) no-packet no_opening = λ up. (refl, refl)
-  call_keeps (side standby) no-packet no_opening = λ up. (refl, refl)
-  call_keeps (totals m) no-packet no_opening = λ up. (refl, refl)
+  call_keeps c no-packet no_opening = grind (arith, ticked_keeps)
 
 heard_stays : (b : Bench) (c : Call) (n : ℕ) → length b.seats ≡ 8 → ((p : List ℕ) → c ≡ packet n p → ⊥) → ((r : Request) → c ≡ opening n r → ⊥)
     → Kept n (seat_of b.seats n) (seat_of (keeping b c).bench.seats n)

@@ -116,18 +116,7 @@ module _ (b : Bench) (ms timestamp room : ℕ) (closed due : List Bool) (sent : 
   is_shown = sym (ap (λ (x : Bench). with_sequences x b.sequences) (accepted_bench b (tick ms timestamp room) clear))
 
   shown_kept : Kept b → Kept shown_bench
-  shown_kept kept =
-      let k = kept_throughout.by_each_call b (tick ms timestamp room) kept tt in
-      record {
-        eight_seats = k.eight_seats;
-        eight_sequences = kept.eight_sequences;
-        sequences_fit = kept.sequences_fit;
-        order_of_eight = k.order_of_eight;
-        order_counts = k.order_counts;
-        each_seat = k.each_seat;
-        one_coupling = k.one_coupling;
-        single_on_main = k.single_on_main;
-      }
+  shown_kept kept = grind (arith, kept_throughout)
 
   shown_right : AirRight b → AirRight shown_bench
   unfolding bench_air keyings

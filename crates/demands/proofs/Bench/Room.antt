@@ -1,9 +1,9 @@
 -- The room that a tick asks for.
 use Prim.Native.Nat.{ℕ, ◌*◌, ◌≤◌, ◌<◌}
-use mathlib.Core.Path.{◌≡◌, refl, ap, ◌∙◌}
+use mathlib.Core.Path.{◌≡◌, refl}
 use mathlib.Core.Logic.{inl, inr, ◌↔◌}
 use native.Mathlib.Omega.{arith}
-use borrow.Author.Tests.{ltb-true, ltb-false, lt-ltb, le-ltb}
+use borrow.Author.Tests.{lt-ltb, le-ltb}
 use lib.ListN.{length}
 use Rattle.base.specs.Lists.{how_many}
 use Rattle.base.proofs.Lists.{many_changed}
@@ -11,7 +11,7 @@ use Rattle.packet.specs.Refusals.{FirstCase, refused}
 use Rattle.record.specs.Kind.{kind_of}
 use Rattle.record.specs.Record.{opened_seat, fresh_bench, seat_of, lesson}
 use Rattle.seats.specs.Opening.{any_coupling, open_refusals, open_said, opened_bench}
-use Rattle.seats.specs.Ticking.{is_due, due_seats, ticked_bench}
+use Rattle.seats.specs.Ticking.{is_due, ticked_bench}
 use Rattle.reporting.proofs.ReportLength.{two_items}
 use Rattle.sending.specs.Sending.{longest_tick, most_sent, tick_refusals, after_closings, records, sent_bytes}
 use Rattle.sending.proofs.Records.{frame_length, records_long, records_fill, sent_most}
@@ -23,9 +23,7 @@ use Rattle.demands.proofs.Demand1.ExactCalls.{calls_exact}
 used : (b : Bench) (ms timestamp : ℕ)
     → length (sent_bytes b ms timestamp) ≡ frame_length (two_items b) * how_many (is_due ms) b.seats
 unfolding sent_bytes records ticked_bench
-used b ms timestamp =
-    records_long (after_closings b ms) timestamp 1 (due_seats b ms)
-    ∙ ap (λ (k : ℕ). frame_length (two_items b) * k) (many_changed (λ d. d) (is_due ms) b.seats)
+used b ms timestamp = grind (arith, many_changed, records_long)
 
 -- in the lab every seat is due, and every report has two items
 needed : length (sent_bytes all_in 20 0) ≡ most_sent
@@ -35,9 +33,7 @@ needed = records_fill (after_closings all_in 20) 0 1 refl
 -- what 26's case is, behind 24's
 case_26 : (ms room : ℕ) → FirstCase 26 (tick_refusals ms room) → (ms ≤ longest_tick) × (room < most_sent)
 unfolding tick_refusals
-case_26 ms room (inl h) = absurd (omega (arith, h.1))
-case_26 ms room (inr (short, inl h)) = (ltb-false longest_tick ms short, ltb-true room most_sent h.0)
-case_26 ms room (inr (short, inr h)) = absurd h.1
+case_26 ms room h = grind arith
 
 exactly : (b : Bench) (ms timestamp room : ℕ) → ((keeping b (tick ms timestamp room)).answer ≡ refused 26 0) ↔ ((ms ≤ longest_tick) × (room < most_sent))
 unfolding tick_refusals

@@ -1,19 +1,19 @@
 -- What one call does to one seat, and what a run of calls made of it.
+use native.Mathlib.Omega.{arith}
 use Prim.Native.Nat.{ℕ}
 use mathlib.Core.Path.{◌≡◌, refl, ap, sym, ◌∙◌}
-use mathlib.Core.Bool.{Bool, true, false, cond}
+use mathlib.Core.Bool.{Bool, cond}
 use mathlib.Core.List.{List, [], ◌∷◌}
 use lib.Dec.{eqb}
 use lib.ListN.{length, length-map}
-use borrow.Author.Tests.{eqb-true}
 use Rattle.packet.specs.Refusals.{NoCase, Answer, accepted, refused}
-use Rattle.record.specs.Record.{closed_seat, opened_seat, seat_of}
-use Rattle.seats.specs.Opening.{call_code, opened_bench, closed_bench}
+use Rattle.record.specs.Record.{seat_of}
+use Rattle.seats.specs.Opening.{opened_bench, closed_bench}
 use Rattle.seats.specs.Ticking.{ticked_seat, ticked_bench}
-use Rattle.hearing.specs.Hearing.{heard_seat, heard_bench, message_in}
+use Rattle.hearing.specs.Hearing.{heard_bench}
 use Rattle.reporting.specs.Reporting.{reported_bench}
 use Rattle.sending.specs.Sending.{sent_bench}
-use Rattle.bench.specs.Step.{Call, opening, closing, packet, tick, report, received, transmitter, side, totals, Said, keeping, after, was_accepted, accepted_calls}
+use Rattle.bench.specs.Step.{Call, Said, keeping, after, was_accepted, accepted_calls}
 use Rattle.record.specs.declared.seat.Seat.{Seat}
 use Rattle.record.specs.declared.whole.Bench.{Bench}
 use Rattle.demands.specs.ExactCalls.{refusals_of}
@@ -29,30 +29,14 @@ use Rattle.record.proofs.Seats.{as_many_entries, seat_put, seat_changed}
 
 pub same_setup : (b : Bench) (c : Call) → (bench_after b c).setup ≡ b.setup
 unfolding opened_bench closed_bench heard_bench ticked_bench sent_bench reported_bench
-same_setup b (opening n r) = refl
-same_setup b (closing n) = refl
-same_setup b (packet n p) = refl
-same_setup b (tick ms timestamp room) = refl
-same_setup b (report n timestamp sound room) = refl
-same_setup b (received signals level) = refl
-same_setup b (transmitter healthy) = refl
-same_setup b (side standby) = refl
-same_setup b (totals n) = refl
+same_setup b c = grind arith
 
 pub setup_kept : (b : Bench) (c : Call) → (keeping b c).bench.setup ≡ b.setup
 setup_kept b c = after_call (λ (x : Bench). x.setup ≡ b.setup) b c refl (λ none. same_setup b c)
 
 pub as_many_seats : (b : Bench) (c : Call) → length (bench_after b c).seats ≡ length b.seats
 unfolding opened_bench closed_bench heard_bench ticked_bench sent_bench reported_bench
-as_many_seats b (opening n r) = as_many_entries b.seats n _
-as_many_seats b (closing n) = as_many_entries b.seats n _
-as_many_seats b (packet n p) = as_many_entries b.seats n _
-as_many_seats b (tick ms timestamp room) = length-map b.seats (ticked_seat ms)
-as_many_seats b (report n timestamp sound room) = refl
-as_many_seats b (received signals level) = refl
-as_many_seats b (transmitter healthy) = refl
-as_many_seats b (side standby) = refl
-as_many_seats b (totals n) = refl
+as_many_seats b c = grind (arith, as_many_entries, length-map)
 
 pub eight_seats : (b : Bench) (c : Call) → length (keeping b c).bench.seats ≡ length b.seats
 eight_seats b c = after_call (λ (x : Bench). length x.seats ≡ length b.seats) b c refl (λ none. as_many_seats b c)
@@ -62,24 +46,12 @@ eight_seats b c = after_call (λ (x : Bench). length x.seats ≡ length b.seats)
 -- the seat that is named is the seat that is asked about
 named : (change : Seat → Seat) (ss : List Seat) (m n : ℕ) (t : Bool) → eqb n m ≡ t
     → cond t (change (seat_of ss m)) (seat_of ss n) ≡ cond t (change (seat_of ss n)) (seat_of ss n)
-named change ss m n true e = ap (λ (k : ℕ). change (seat_of ss k)) (sym (eqb-true n m e))
-named change ss m n false e = refl
+named change ss m n t e = grind arith
 
 pub seat_made : (b : Bench) (c : Call) → length b.seats ≡ 8 → NoCase (refusals_of b c) → (n : ℕ)
     → seat_of (bench_after b c).seats n ≡ seat_after c n (seat_of b.seats n)
 unfolding opened_bench closed_bench heard_bench ticked_bench sent_bench reported_bench ticked_seat
-seat_made b (opening m r) eight none n =
-    seat_put b.seats m n (opened_seat (call_code r.call) r.period r.multiplier r.ssrc) eight (open_accepted b.setup m b.seats r none).is_seat
-seat_made b (closing m) eight none n = seat_put b.seats m n closed_seat eight (seat_accepted m (seat_of b.seats m).opened none).is_seat
-seat_made b (packet m p) eight none n =
-    seat_put b.seats m n (heard_seat (seat_of b.seats m) (message_in p)) eight (packet_accepted b.setup m (seat_of b.seats m) p none).is_seat
-    ∙ named (λ s. heard_seat s (message_in p)) b.seats m n (eqb n m) refl
-seat_made b (tick ms timestamp room) eight none n = seat_changed (ticked_seat ms) refl b.seats n
-seat_made b (report m timestamp sound room) eight none n = refl
-seat_made b (received signals level) eight none n = refl
-seat_made b (transmitter healthy) eight none n = refl
-seat_made b (side standby) eight none n = refl
-seat_made b (totals m) eight none n = refl
+seat_made b c eight none n = grind (arith, open_accepted, packet_accepted, seat_accepted, seat_changed, seat_put)
 
 pub seat_after_lem : (b : Bench) (c : Call) → length b.seats ≡ 8 → NoCase (refusals_of b c) → (n : ℕ)
     → seat_of (keeping b c).bench.seats n ≡ seat_after c n (seat_of b.seats n)

@@ -1,4 +1,5 @@
 -- Main and standby behind one address.
+use native.Mathlib.Omega.{arith}
 use Prim.Native.Nat.{ℕ}
 use mathlib.Core.Path.{◌≡◌, refl, ap, ◌∙◌}
 use mathlib.Core.Bool.{Bool, true, false, not}
@@ -25,7 +26,6 @@ use Rattle.reporting.specs.Reporting.{report_of, report_bytes, report_refusals, 
 use Rattle.sending.specs.Sending.{sent_bench}
 use Rattle.bench.specs.Step.{Call, opening, closing, packet, tick, report, received, transmitter, side, totals, Said, done, heard, written, does, keeping, after}
 use Rattle.record.specs.declared.kind.Kind.{Kind}
-use Rattle.record.specs.declared.kind.Kind.TheVariants.{Single, Pair, Shared}
 use Rattle.record.specs.declared.setup.Setup.{Setup}
 use Rattle.record.specs.declared.seat.Field.{Field}
 use Rattle.record.specs.declared.whole.Bench.{Bench}
@@ -43,9 +43,7 @@ use Rattle.demands.proofs.Bench.AirKept.{air_kept}
 
 codes : (kind : Kind) → kind_of (kind_code kind) ≡ kind
 unfolding kind_of
-codes Single = refl
-codes Pair = refl
-codes Shared = refl
+codes kind = grind arith
 
 -- ---- the side in use
 

@@ -1,9 +1,10 @@
 -- What moves the side in use.
+use native.Mathlib.Omega.{arith}
 use Prim.Native.Nat.{ℕ}
 use mathlib.Core.Path.{◌≡◌, refl}
 use mathlib.Core.Bool.{Bool}
 use mathlib.Core.List.{List}
-use mathlib.Core.Logic.{◌⊎◌, inl, inr}
+use mathlib.Core.Logic.{◌⊎◌}
 use Rattle.packet.specs.InWords.{TurnedAway}
 use Rattle.packet.proofs.InWords.{turned_away}
 use Rattle.record.specs.Kind.{kind_of}
@@ -28,8 +29,7 @@ turned b standby = rw (call_answer b (side standby)) (turned_away _ (said_by b (
 
 by_event : (b : Bench) (standby : Bool) → (b.setup.kind ≡ 1) ⊎ (b.setup.kind ≡ 2) → (keeping b (side standby)).bench.standby ≡ standby
 unfolding does side_said side_refusals kind_of
-by_event b standby (inl e) = simp e
-by_event b standby (inr e) = simp e
+by_event b standby h = grind arith
 
 other_calls : (b : Bench) (c : Call) → ((n : ℕ) (p : List ℕ) → c ≡ packet n p → ⊥) → ((standby : Bool) → c ≡ side standby → ⊥) → (keeping b c).bench.standby ≡ b.standby
 unfolding opened_bench closed_bench ticked_bench sent_bench reported_bench

@@ -1,15 +1,15 @@
 -- Which seats are open, closed by a tick and due, from the calls themselves.
-use Prim.Native.Nat.{ℕ, zero, suc, ◌+◌, ◌*◌, ◌-◌, ◌%◌, ◌≤◌, ◌<◌}
-use mathlib.Core.Path.{◌≡◌, refl, sym, ap, ap₂, subst, ◌∙◌}
-use mathlib.Core.Bool.{Bool, true, false, cond, not, ◌&&◌, false≢true}
+use Prim.Native.Nat.{ℕ, ◌+◌, ◌*◌, ◌-◌, ◌%◌, ◌≤◌, ◌<◌}
+use mathlib.Core.Path.{◌≡◌, refl, sym, ap, subst, ◌∙◌}
+use mathlib.Core.Bool.{Bool, true, false, cond, false≢true}
 use mathlib.Core.List.{List, [], ◌∷◌}
 use mathlib.Core.Logic.{◌↔◌}
 use native.Mathlib.Nat.{zero-mod, mod-add-mod}
 use native.Mathlib.Omega.{arith}
 use lib.Dec.{leb, eqb}
 use lib.ListN.{length}
-use borrow.Author.Tests.{leb-true, leb-false, le-leb, lt-leb, eq-eqb, not-true, ne_eqb}
-use Rattle.base.proofs.Truths.{and_left, and_right, either_way}
+use borrow.Author.Tests.{leb-false, eq-eqb}
+use Rattle.base.proofs.Truths.{either_way}
 use Rattle.packet.specs.Refusals.{accepted}
 use Rattle.record.specs.Record.{closed_seat, opened_seat, entry_of, seat_of, fresh_bench}
 use Rattle.record.proofs.Seats.{entry_changed, seat_of_eight_closed}
@@ -46,11 +46,7 @@ shut_times = record { runs = refl; timed = λ up. absurd (false≢true up) }
 
 further : (period ms phase age : ℕ) → phase ≡ cond (eqb period 0) 0 (age % period)
     → cond (eqb period 0) 0 ((phase + ms) % period) ≡ cond (eqb period 0) 0 ((age + ms) % period)
-further period ms phase age e = by_case (eqb period 0) e
-  where
-    by_case : (t : Bool) → phase ≡ cond t 0 (age % period) → cond t 0 ((phase + ms) % period) ≡ cond t 0 ((age + ms) % period)
-    by_case true e = refl
-    by_case false e = ap (λ (k : ℕ). (k + ms) % period) e ∙ mod-add-mod age period ms
+further period ms phase age e = grind (arith, mod-add-mod)
 
 opened_times : (r : Request) → Times (opened_seat (call_code r.call) r.period r.multiplier r.ssrc) (started r)
 unfolding opened_seat
@@ -69,31 +65,11 @@ opened_times r =
 
 heard_times : (s : Seat) (m : Tx) (k : Clock) → Times s k → Times (heard_seat s m) (clock_with k 0 k.age)
 unfolding heard_seat
-heard_times s m k old =
-    record {
-      runs = old.runs;
-      timed = λ up.
-          let t = old.timed up in
-          record {
-            as_asked = still_asked t.as_asked;
-            left = all_left s.period s.multiplier t.as_asked.period t.as_asked.multiplier;
-            phase = t.phase;
-          };
-    }
-  where
-    still_asked : AsAsked k.asked s → AsAsked k.asked (heard_seat s m)
-    still_asked a = record { call = a.call; period = a.period; multiplier = a.multiplier; ssrc = a.ssrc }
-
-    all_left : (p q : ℕ) → p ≡ k.asked.period → q ≡ k.asked.multiplier → p * q + 0 ≡ lasts k
-    all_left p q e f = ap₂ (λ (x y : ℕ). x * y + 0) e f ∙ (omega arith)
+heard_times s m k old = grind arith
 
 -- nothing is left exactly if the quiet lasted for all of it
 same_end : (left quiet ms whole : ℕ) → left + quiet ≡ whole → leb left ms ≡ leb whole (quiet + ms)
-same_end left quiet ms whole e = by_case (leb left ms) refl
-  where
-    by_case : (t : Bool) → leb left ms ≡ t → t ≡ leb whole (quiet + ms)
-    by_case true h = sym (le-leb whole (quiet + ms) (let l = leb-true left ms h in omega arith))
-    by_case false h = sym (lt-leb whole (quiet + ms) (let l = leb-false left ms h in omega arith))
+same_end left quiet ms whole e = grind arith
 
 ticked_times : (ms : ℕ) (s : Seat) (k : Clock) → Times s k → Times (ticked_seat ms s) (cond (leb (lasts k) (k.quiet + ms)) stopped (clock_with k (k.quiet + ms) (k.age + ms)))
 unfolding ticked_seat
@@ -160,10 +136,7 @@ run_times setup run n =
 
 -- (a period of 0 runs out at once, whatever the phase)
 runs_out : (ms age period phase : ℕ) → phase ≡ cond (eqb period 0) 0 (age % period) → (period ≤ phase + ms) ↔ (period ≤ age % period + ms)
-runs_out ms age zero phase e = (λ h. omega arith, λ h. omega arith)
-runs_out ms age (suc p) phase e =
-    let is : phase ≡ age % suc p = e ∙ rw (ne_eqb (suc p) 0 (λ (z : suc p ≡ 0). omega arith)) in
-    (λ h. subst (λ (q : ℕ). suc p ≤ q + ms) is h, λ h. subst (λ (q : ℕ). suc p ≤ q + ms) (sym is) h)
+runs_out ms age period phase e = grind arith
 
 module _ (ms : ℕ) (s : Seat) (k : Clock) (times : Times s k) where
   over : k.runs ≡ true → nothing_left ms s ≡ leb (lasts k) (k.quiet + ms)
@@ -174,25 +147,11 @@ module _ (ms : ℕ) (s : Seat) (k : Clock) (times : Times s k) where
 
   closes : (falls_silent ms s ≡ true) ↔ ((k.runs ≡ true) × (lasts k ≤ k.quiet + ms))
   unfolding falls_silent
-  closes = (
-    λ e.
-        let up = sym times.runs ∙ and_left s.opened (nothing_left ms s) e in
-        (up, leb-true _ _ (sym (over up) ∙ and_right s.opened (nothing_left ms s) e)),
-    λ h. simp (times.runs ∙ h.0, over h.0 ∙ le-leb _ _ h.1),
-  )
+  closes = grind arith
 
   is_due_lem : (is_due ms s ≡ true) ↔ ((k.runs ≡ true) × (k.quiet + ms < lasts k) × (k.asked.period ≤ k.age % k.asked.period + ms))
   unfolding is_due
-  is_due_lem = (
-    λ e.
-        let here = and_left (s.opened && not (nothing_left ms s)) (leb s.period (s.phase + ms)) e in
-        let up = sym times.runs ∙ and_left s.opened (not (nothing_left ms s)) here in (
-          up,
-          leb-false _ _ (sym (over up) ∙ not-true _ (and_right s.opened (not (nothing_left ms s)) here)),
-          (out up).0 (leb-true _ _ (and_right (s.opened && not (nothing_left ms s)) (leb s.period (s.phase + ms)) e)),
-        ),
-    λ h. simp (times.runs ∙ h.0, over h.0 ∙ lt-leb _ _ h.1, le-leb s.period (s.phase + ms) ((out h.0).1 h.2)),
-  )
+  is_due_lem = grind arith
 
 module _ (setup : Setup) (run : List Call) (ms timestamp room : ℕ) (closed due : List Bool) (records : List (List ℕ)) where
   abbrev now : Bench

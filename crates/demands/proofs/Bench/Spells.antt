@@ -1,13 +1,13 @@
 -- A ledger of keyings, one call further: what a packet, an opening and a call that leaves the fields make of it.
-use Prim.Native.Nat.{ℕ, zero, suc, ◌≤◌, ◌<◌}
+use Prim.Native.Nat.{ℕ, suc, ◌≤◌, ◌<◌}
 use mathlib.Core.Path.{◌≡◌, refl, sym, ap, subst, ◌∙◌}
 use mathlib.Core.Bool.{Bool, true, false, cond, not, ◌&&◌, ◌||◌}
 use mathlib.Core.List.{List}
 use native.Mathlib.Omega.{arith}
 use lib.Dec.{eqb}
 use lib.ListN.{length}
-use borrow.Author.Tests.{lt-ltb, le-leb, eqb-true, eqb-false}
-use Rattle.base.proofs.Truths.{and_none, or_right}
+use borrow.Author.Tests.{eqb-true, eqb-false}
+use Rattle.base.proofs.Truths.{or_right}
 use Rattle.packet.specs.Packet.{ptt_on}
 use Rattle.packet.specs.Refusals.{NoCase, accepted}
 use Rattle.packet.specs.declared.message.Tx.{Tx}
@@ -44,13 +44,7 @@ no_spell i = record { type = 0; since = i }
 
 module _ (old : Field) (m : Tx) (known : m.ptt ≤ 5) (now : Spell) (is : now.type ≡ keys old) (i : ℕ) where
   quiet_is : (a c : Bool) → m.pm ≡ a → eqb m.ptt 0 ≡ c → ptt_on m.ptt && not m.pm ≡ not (a || c)
-  quiet_is true c p q = simp (p, and_none)
-  quiet_is false true p q = simp (eqb-true m.ptt 0 q)
-  quiet_is false false p q = simp (p, lt-ltb 0 m.ptt (some m.ptt (eqb-false m.ptt 0 q)), le-leb m.ptt 5 known)
-    where
-      some : (k : ℕ) → (k ≡ 0 → ⊥) → 0 < k
-      some zero z = absurd (z refl)
-      some (suc k) z = omega arith
+  quiet_is a c p q = grind arith
 
   -- what the keying is after it, and whether one began
   data Heard : Spell → Bool → Type 0 where
@@ -82,14 +76,10 @@ module _ (old : Field) (m : Tx) (known : m.ptt ≤ 5) (now : Spell) (is : now.ty
           by_type false false d p r s e = another is_on
 
   heard_type : {sp : Spell} {t : Bool} → Heard sp t → sp.type ≡ keys (field_heard m)
-  heard_type (ends h) = sym h
-  heard_type (goes_on h) = sym h
-  heard_type (another h) = sym h
+  heard_type h = grind arith
 
   heard_since : {sp : Spell} {t : Bool} → Heard sp t → now.since < i → sp.since < suc i
-  heard_since (ends h) l = omega arith
-  heard_since (goes_on h) l = omega arith
-  heard_since (another h) l = omega arith
+  heard_since h l = grind arith
 
 -- ---- what every bench of a run has
 
@@ -104,15 +94,7 @@ module _ (b : Bench) (c : Call) (i : ℕ) (spells : ℕ → Spell) (eight : leng
   pub left_alone : (keeping b c).bench.order ≡ b.order
       → ((n : ℕ) (s : Seat) → (seat_after c n s).opened ≡ true → (s.opened ≡ true) × ((seat_after c n s).heard.field ≡ s.heard.field))
       → Ledger (keeping b c).bench (suc i) spells
-  left_alone unmoved same =
-      record {
-        typed = λ n up.
-            let q = seat_after_lem b c eight clear n in
-            let r = same n (seat_of b.seats n) (ap (λ (s : Seat). s.opened) (sym q) ∙ up) in
-            old.typed n r.0 ∙ ap keys (sym r.1) ∙ ap (λ (s : Seat). keys s.heard.field) (sym q);
-        early = λ n. let l = old.early n in omega arith;
-        ordered = λ j k a d e f x y l. subst (λ (o : List ℕ). place_of j o < place_of k o) (sym unmoved) (old.ordered j k a d e f x y l);
-      }
+  left_alone unmoved same = grind (arith, seat_after_lem)
 
 module _ (b : Bench) (i : ℕ) (spells : ℕ → Spell) (eight : length b.seats ≡ 8) (counted : Counted b) (old : Ledger b i spells) where
   pub opened_ledger : (m : ℕ) (r : Request) → NoCase (refusals_of b (opening m r)) → Ledger (keeping b (opening m r)).bench (suc i) (λ n. spell_after n i (spells n) (opening m r))

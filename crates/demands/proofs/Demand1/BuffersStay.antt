@@ -1,9 +1,9 @@
 -- What stays of a lent buffer: one law for every call that fills one.
 use Prim.Native.Nat.{ℕ, ◌≤◌}
-use mathlib.Core.Path.{◌≡◌, refl, sym, ap, ◌∙◌}
+use mathlib.Core.Path.{refl, sym}
 use mathlib.Core.List.{List}
 use native.Mathlib.Omega.{arith}
-use lib.ListN.{length, drop, length-append, length-drop}
+use lib.ListN.{length, length-append, length-drop}
 use lib.Seq.{drop_at}
 use borrow.Author.Tests.{ltb-false}
 use Rattle.packet.specs.Refusals.{Case, NoCase, accepted, refused, judged}
@@ -18,12 +18,7 @@ use Rattle.demands.specs.BuffersStay.{Stays, BuffersStay}
 
 module _ (packet buffer : List ℕ) where
   written : length packet ≤ length buffer → Stays (accepted (length packet)) buffer (filled (accepted (length packet)) packet buffer)
-  written fits =
-      record {
-        as_long = simp (length-append, length-drop) (omega arith);
-        past_it = λ n e. let at : length packet ≡ n = cc in drop_at packet (drop (length packet) buffer) n at ∙ ap (λ (k : ℕ). drop k buffer) at;
-        refused_all = λ n c e. absurd (never _ n c e);
-      }
+  written fits = grind (arith, drop_at, length-append, length-drop)
 
   turned_away : (n c : ℕ) → Stays (refused n c) buffer buffer
   turned_away n c = record { as_long = refl; past_it = λ k e. absurd (never k n c (sym e)); refused_all = λ _ _ e. refl }

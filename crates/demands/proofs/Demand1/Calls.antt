@@ -1,4 +1,5 @@
 -- Every call in one form: a list of refusals, what it tells, and what it makes of the bench.
+use native.Mathlib.Omega.{arith}
 use mathlib.Core.Path.{◌≡◌, refl, sym, ap, subst, ◌∙◌}
 use mathlib.Core.List.{List}
 use Rattle.packet.specs.Refusals.{Case, NoCase, Answer, accepted, judged}
@@ -47,29 +48,11 @@ settled_judged cs a b before after = judged_both (λ x y. settled x before after
 
 pub call_answer : (b : Bench) (c : Call) → (keeping b c).answer ≡ judged (refusals_of b c) (said_by b c)
 unfolding does open_said close_said seat_verdict packet_said tick_said report_said side_said totals_said
-call_answer b (opening n r) = judged_mapped own (refusals_of b (opening n r)) (own_id n (call_code r.call))
-call_answer b (closing n) = judged_mapped (λ u. done) (refusals_of b (closing n)) tt
-call_answer b (packet n p) = judged_mapped (told p) (refusals_of b (packet n p)) (hearing b n p)
-call_answer b (tick ms timestamp room) =
-    judged_mapped (λ used. ticked (silent_seats b ms) (due_seats b ms) (records b ms timestamp)) (refusals_of b (tick ms timestamp room)) _
-call_answer b (report n timestamp sound room) =
-    judged_mapped (λ k. written (report_bytes b n timestamp sound)) (refusals_of b (report n timestamp sound room)) _
-call_answer b (received signals level) = refl
-call_answer b (transmitter healthy) = refl
-call_answer b (side standby) = judged_mapped (λ u. done) (refusals_of b (side standby)) tt
-call_answer b (totals n) = judged_mapped counts (refusals_of b (totals n)) (seat_of b.seats n).totals
+call_answer b c = grind (arith, judged_mapped)
 
 pub call_bench : (b : Bench) (c : Call) → (keeping b c).bench ≡ settled (judged (refusals_of b c) (said_by b c)) b (bench_after b c)
 unfolding does open_said close_said seat_verdict packet_said tick_said report_said side_said totals_said
-call_bench b (opening n r) = settled_judged (refusals_of b (opening n r)) _ _ b _
-call_bench b (closing n) = settled_judged (refusals_of b (closing n)) _ _ b _
-call_bench b (packet n p) = settled_judged (refusals_of b (packet n p)) _ _ b _
-call_bench b (tick ms timestamp room) = settled_judged (refusals_of b (tick ms timestamp room)) _ _ b _
-call_bench b (report n timestamp sound room) = settled_judged (refusals_of b (report n timestamp sound room)) _ _ b _
-call_bench b (received signals level) = refl
-call_bench b (transmitter healthy) = refl
-call_bench b (side standby) = settled_judged (refusals_of b (side standby)) _ _ b _
-call_bench b (totals n) = settled_judged (refusals_of b (totals n)) _ _ b _
+call_bench b c = grind (arith, settled_judged)
 
 -- an accepted call met no case, and tells what said_by has
 pub was_accepted_lem : (b : Bench) (c : Call) (said : Said) → (keeping b c).answer ≡ accepted said → NoCase (refusals_of b c) × (said_by b c ≡ said)

@@ -1,4 +1,5 @@
 -- Each refusal in exactly its case.
+use native.Mathlib.Omega.{arith}
 use Prim.Native.Nat.{ℕ}
 use mathlib.Core.Path.{◌≡◌, refl, ap}
 use mathlib.Core.Bool.{Bool, true, false, cond, ◌&&◌, ◌||◌}
@@ -8,10 +9,8 @@ use lib.Dec.{eqb}
 use borrow.Author.Tests.{eq-eqb}
 use Rattle.base.proofs.Truths.{and_none}
 use Rattle.packet.specs.Refusals.{Case, FirstCase, refused, cause_of, judged}
-use Rattle.reader.specs.Reading.{reader_refusals, message_of, read, read_tx, read_rx}
-use Rattle.packet.specs.declared.message.Direction.TheVariants as direction
+use Rattle.reader.specs.Reading.{read, read_tx, read_rx}
 use Rattle.packet.proofs.Judged.{never, judged_mapped, accepts, meets_none}
-use Rattle.packet.specs.Messages.{as_tx, as_rx}
 use Rattle.demands.specs.Exact.{Exact, ReadersExact}
 
 module _ {A : Type 0} (a : A) where
@@ -47,7 +46,4 @@ first_holds n (c ∷ cs) (inr h) = simp (h.0, and_none, first_holds n cs h.1)
 
 pub readers_exact : ReadersExact
 unfolding read read_tx read_rx
-readers_exact = record {
-  of_tx = λ ext p. rw (judged_mapped as_tx (reader_refusals direction.Tx ext p) (message_of p)) (exact_judged (as_tx (message_of p)) (reader_refusals direction.Tx ext p));
-  of_rx = λ ext p. rw (judged_mapped as_rx (reader_refusals direction.Rx ext p) (message_of p)) (exact_judged (as_rx (message_of p)) (reader_refusals direction.Rx ext p));
-}
+readers_exact = grind (arith, exact_judged, judged_mapped)

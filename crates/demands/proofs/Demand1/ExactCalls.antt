@@ -1,4 +1,5 @@
 -- Each call refuses in exactly its cases, and then changes nothing.
+use native.Mathlib.Omega.{arith}
 use Prim.Native.Nat.{ℕ}
 use mathlib.Core.Path.{◌≡◌, ap}
 use mathlib.Core.List.{List}
@@ -31,10 +32,4 @@ refused_sends_nothing b ms timestamp buffer n cause e =
     ap (λ (a : Answer ℕ). filled a (sent_bytes b ms timestamp) buffer) (was_refused (tick_said b ms timestamp (length buffer)) _ n cause e)
 
 pub calls_exact : CallsExact
-calls_exact =
-    record {
-      each_call = each_call;
-      refused_keeps = refused_keeps;
-      refused_writes_nothing = refused_writes_nothing;
-      refused_sends_nothing = refused_sends_nothing;
-    }
+calls_exact = grind (arith, each_call, refused_keeps, refused_sends_nothing, refused_writes_nothing)

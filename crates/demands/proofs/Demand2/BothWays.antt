@@ -1,20 +1,21 @@
 -- What the writers write, the readers read, and the other way round: by the promises, RoundTrip and Rewrite.
+use native.Mathlib.Omega.{arith}
 use Prim.Native.Nat.{ℕ}
 use mathlib.Core.Path.{◌≡◌, ap, ap₂, sym, ◌∙◌}
-use mathlib.Core.Bool.{Bool, true, false, not}
+use mathlib.Core.Bool.{true, false, not}
 use mathlib.Core.List.{List, []}
-use lib.ListN.{length, take, drop}
+use lib.ListN.{length, take}
 use lib.Seq.{take_at}
 use Rattle.std.specs.Prelude.{Result, Ok}
 use Rattle.packet.specs.Packet.{payload}
 use Rattle.packet.specs.Refusals.{Answer, accepted, answer_of}
 use Rattle.reader.specs.Reading.{read_tx, read_rx}
-use Rattle.writer.specs.Writing.{encode, writable, write, filled, buffered}
+use Rattle.writer.specs.Writing.{encode, writable, write, buffered}
 use Rattle.record.specs.Record.{no_such_seat, entry_of}
 use Rattle.record.proofs.Seats.{flag_is_seat}
 use Rattle.seats.specs.Ticking.{silent_seats, due_seats, ticked_bench}
-use Rattle.reporting.specs.Reporting.{squ_told, report_of, report_refusals, report_said, report_bytes, report_buffer}
-use Rattle.sending.specs.Sending.{tick_refusals, after_closings, record_for, records, sent_bytes, tick_said, named_in, tick_sets, tick_buffer}
+use Rattle.reporting.specs.Reporting.{squ_told, report_of, report_said, report_bytes, report_buffer}
+use Rattle.sending.specs.Sending.{after_closings, records, sent_bytes, tick_said, named_in, tick_sets, tick_buffer}
 use Rattle.packet.specs.declared.refusal.Refusal.{Refusal}
 use Rattle.packet.specs.declared.message.Message.{Message}
 use Rattle.packet.specs.declared.message.Tx.{Tx}
@@ -70,11 +71,7 @@ report_front : (b : Bench) (n timestamp : ℕ) (sound out left : List ℕ) (w : 
     → answer_of w ≡ report_said b n timestamp sound (length out) → left ≡ report_buffer b n timestamp sound out → w ≡ Ok long
     → (report_said b n timestamp sound (length out) ≡ accepted long) × (take long left ≡ report_bytes b n timestamp sound)
 unfolding report_said report_buffer
-report_front b n timestamp sound out left w long h l e =
-    let said = sym h ∙ ap answer_of e in
-    let bytes = report_bytes b n timestamp sound in
-    let met = meets_none (report_refusals b n timestamp sound (length out)) (length bytes) long said in
-    (said, ap (take long) l ∙ ap (λ (a : Answer ℕ). take long (filled a bytes out)) said ∙ take_at bytes (drop long out) long met.1)
+report_front b n timestamp sound out left w long h l e = grind (arith, meets_none, take_at)
 
 module _ (b : Bench) (ms timestamp : ℕ) (out left : List ℕ) (sets : SeatSets) (w : Result ℕ Refusal) (used : ℕ)
     (h : answer_of w ≡ tick_said b ms timestamp (length out)) (s : sets ≡ tick_sets b ms timestamp (length out))
@@ -88,19 +85,12 @@ module _ (b : Bench) (ms timestamp : ℕ) (out left : List ℕ) (sets : SeatSets
 
   tick_front : take used left ≡ sent_bytes b ms timestamp
   unfolding tick_said tick_buffer
-  tick_front =
-      let bytes = sent_bytes b ms timestamp in
-      ap (take used) l ∙ ap (λ (a : Answer ℕ). take used (filled a bytes out)) said
-      ∙ take_at bytes (drop used out) used (meets_none (tick_refusals ms (length out)) (length bytes) used said).1
+  tick_front = grind (arith, meets_none, take_at)
 
   report_sent : (n : ℕ) → entry_of false sets.due n ≡ true
       → entry_of [] (read_back sets.due (take used left)) n ≡ report_bytes (after_closings b ms) n timestamp []
   unfolding sent_bytes records
-  report_sent n is_due_lem =
-      ap (λ (rs : List (List ℕ)). entry_of [] rs n)
-      (ap₂ read_back due_named tick_front ∙ frames-back (after_closings b ms) timestamp 1 (due_seats b ms))
-      ∙ seat_record (after_closings b ms) timestamp (due_seats b ms) n (flag_is_seat sets.due n is_due_lem)
-      ∙ ap (record_for (after_closings b ms) timestamp n) (ap (λ (due : List Bool). entry_of false due n) (sym due_named) ∙ is_due_lem)
+  report_sent n is_due_lem = grind (arith, due_named, frames-back, seat_record, tick_front)
 
 -- a tick makes the air right, so that its reports can be read
 sent_back : (b : Bench) (ms n timestamp : ℕ) → no_such_seat n ≡ false

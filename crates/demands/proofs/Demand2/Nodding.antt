@@ -1,5 +1,6 @@
 -- Demand 3 alone would let pass a bench that handles a seat's first packet and then only nods: it runs as the true one does
 -- without the packets that it nods at, and lesson seats do not move which of the live ones these are.
+use native.Mathlib.Omega.{arith}
 use Prim.Native.Nat.{ℕ}
 use mathlib.Core.Path.{◌≡◌, refl, sym, ap, ◌∙◌}
 use mathlib.Core.Bool.{Bool, true, false, cond}
@@ -7,9 +8,8 @@ use mathlib.Core.List.{List, [], ◌∷◌}
 use Rattle.base.proofs.Truths.{and_none, either_way}
 use Rattle.record.specs.Record.{seat_numbers, lesson, fresh_bench}
 use Rattle.record.proofs.Seats.{same_lessons}
-use Rattle.bench.specs.Step.{Call, opening, closing, packet, tick, report, received, transmitter, side, totals, Machine, step, keeping, after}
+use Rattle.bench.specs.Step.{Call, packet, Machine, step, keeping, after}
 use Rattle.record.specs.declared.setup.Setup.{Setup}
-use Rattle.record.specs.declared.seat.Seat.{Seat}
 use Rattle.record.specs.declared.whole.Bench.{Bench}
 use Rattle.demands.specs.Apart.{named, without_lessons, live_above_test, fixed, compared, audio_sent}
 use Rattle.demands.specs.WrongBenches.{nodding, is_later, nod, wrong, ApartAlone}
@@ -36,15 +36,7 @@ after_handled b (c ∷ cs) = by_call (is_later b c) (after_handled b cs) (after_
 
 later_low : (b : Bench) (c : Call) → lesson b.setup (named c) ≡ false → is_later (low b) c ≡ is_later b c
 unfolding named
-later_low b (packet n p) live = ap (λ (s : Seat). s.heard.any) (seat_low b n live)
-later_low b (opening n r) live = refl
-later_low b (closing n) live = refl
-later_low b (tick ms timestamp room) live = refl
-later_low b (report n timestamp sound room) live = refl
-later_low b (received signals level) live = refl
-later_low b (transmitter healthy) live = refl
-later_low b (side standby) live = refl
-later_low b (totals n) live = refl
+later_low b c live = grind (arith, seat_low)
 
 handled_low : (setup : Setup) (b : Bench) (cs : List Call) → b.setup ≡ setup → Reached b
     → without_lessons setup (handled keeping b cs) ≡ handled step (low b) (without_lessons setup cs)
@@ -76,10 +68,7 @@ module _ (setup : Setup) (xs ys : List Call) (e : without_lessons setup xs ≡ w
 
   handled_alike : without_lessons setup handled_xs ≡ without_lessons setup handled_ys
   unfolding fresh_bench
-  handled_alike =
-      handled_low setup (fresh_bench setup) xs refl (reached_fresh setup)
-      ∙ ap (handled step (low (fresh_bench setup))) e
-      ∙ sym (handled_low setup (fresh_bench setup) ys refl (reached_fresh setup))
+  handled_alike = grind (arith, handled_low, reached_fresh)
 
   low_same : low (ran setup handled_xs) ≡ low (ran setup handled_ys)
   low_same = low_alike setup handled_xs handled_ys handled_alike

@@ -1,7 +1,6 @@
 -- The numbers of a call fit their types: what owning its arguments tells of them, as the kit has it (`GoodsP`).
-use Prim.Native.Nat.{ℕ, zero, suc, ◌-◌, ◌<◌, ◌^◌}
+use Prim.Native.Nat.{ℕ, zero, suc, ◌<◌, ◌^◌}
 use mathlib.Core.Path.{refl, sym, subst}
-use mathlib.Core.Bool.{Bool, true, false, cond}
 use mathlib.Core.List.{List, [], ◌∷◌, map}
 use native.Mathlib.Omega.{arith}
 use lib.ListN.{get_or}
@@ -12,7 +11,7 @@ use denote.Builtin.{u16}
 use denote.Shadow.{shadow}
 use denote.Array.{each}
 use borrow.Fn.Kinds.{Dens, GoodsP}
-use Rattle.record.specs.Record.{no_such_seat, closed_seat, entry_of, seat_of}
+use Rattle.record.specs.Record.{closed_seat, entry_of, seat_of}
 use Rattle.seats.specs.Ticking.{ticked_seat, ticked_bench}
 use Rattle.reporting.specs.Reporting.{report_of}
 use Rattle.sending.specs.Sending.{after_closings}
@@ -36,11 +35,7 @@ each_holds own P tells (v ∷ vs) (u ∷ us) g other p (suc i) = each_holds own 
 
 -- of what it holds for a seat, and of the seat of a number
 entry_holds : {A : Type 0} (P : A → Type 0) (none : A) (entries : List A) (n : ℕ) → P none → ((i : ℕ) → P (get_or entries i none)) → P (entry_of none entries n)
-entry_holds P none entries n nothing each = by_number (no_such_seat n)
-  where
-    by_number : (past : Bool) → P (cond past none (get_or entries (n - 1) none))
-    by_number true = nothing
-    by_number false = each (n - 1)
+entry_holds h none entries n nothing each = grind arith
 
 seat_holds : (P : Seat → Type 0) (seats : List Seat) (n : ℕ) → P closed_seat → ((i : ℕ) → P (get_or seats i closed_seat)) → P (seat_of seats n)
 unfolding seat_of
@@ -53,14 +48,10 @@ none_fits : SsrcFits closed_seat
 none_fits = omega arith
 
 pub narrow_tx : (k : Lfts 2) (a : Dens k writer.write_tx.Kinds.ps) → GoodsP k writer.write_tx.Kinds.ps a → Narrow a.0 (from_tx a.1.0)
-narrow_tx k a g =
-    let m = g.1.0.1.1 in
-    record { extension = g.0.1; sequence = m.0.1; timestamp = m.1.0.1; ssrc = m.1.1.0.1 }
+narrow_tx k a g = grind arith
 
 pub narrow_rx : (k : Lfts 2) (a : Dens k writer.write_rx.Kinds.ps) → GoodsP k writer.write_rx.Kinds.ps a → Narrow a.0 (from_rx a.1.0)
-narrow_rx k a g =
-    let m = g.1.0.1.1 in
-    record { extension = g.0.1; sequence = m.0.1; timestamp = m.1.0.1; ssrc = m.1.1.0.1 }
+narrow_rx k a g = grind arith
 
 pub narrow_report : (k : Lfts 2) (a : Dens k reporting.report.Kinds.ps) → GoodsP k reporting.report.Kinds.ps a
     → Narrow a.0.setup.ext (from_rx (report_of a.0 a.1.0 a.1.1.0))

@@ -1,11 +1,11 @@
 -- The five wrong benches: where each breaks a promise, and that demand 3 alone would let it pass.
 use Prim.Native.Nat.{ℕ}
 use mathlib.Core.Path.{◌≡◌, refl, sym, ap, ap₂, ◌∙◌}
-use mathlib.Core.Bool.{Bool, true, false, cond, false≢true}
+use mathlib.Core.Bool.{Bool, false, cond, false≢true}
 use mathlib.Core.List.{List, [], ◌∷◌, map}
 use native.Mathlib.Omega.{arith}
 use Rattle.base.proofs.Truths.{and_none}
-use Rattle.packet.specs.Refusals.{Answer, accepted, refused, mapped}
+use Rattle.packet.specs.Refusals.{Answer, accepted, mapped}
 use Rattle.base.specs.Lists.{how_many}
 use Rattle.base.specs.Order.{centred, distance, late, missing}
 use Rattle.packet.specs.Packet.{payload, payload_allowed, field_allowed, after_field, off, normal}
@@ -25,13 +25,11 @@ use Rattle.reporting.specs.Reporting.{report_of, report_bytes, report_refusals, 
 use Rattle.bench.specs.Step.{Call, packet, Said, done, own, heard, ticked, written, totalled, Outcome, Machine, does, keeping, after}
 use Rattle.record.specs.declared.setup.Setup.{Setup}
 use Rattle.record.specs.declared.whole.Bench.{Bench}
-use Rattle.hearing.specs.declared.hearing.Hearing.{Hearing}
 use Rattle.demands.specs.Apart.{ptt_of, live_above_test, as_seen, among_live, records_seen, fixed, compared, audio_sent}
-use Rattle.demands.specs.LessonsSeen.{enters, keys, asked, quiet_report, sounds}
+use Rattle.demands.specs.LessonsSeen.{enters, keys, asked}
 use Rattle.demands.specs.WrongBenches.{Obeys, lab_after, Answers, Leaves, WrongBench, refusing, repeating, ignoring, nodding, inventing, with_bytes, with_count, retold, wrong, ApartAlone, entered, reported, spoken, Tried, WrongBenches}
 use Rattle.packet.proofs.Judged.{never}
 use Rattle.demands.proofs.Demand3.LiveTicks.{flag_compared, live_alike}
-use Rattle.demands.proofs.Demand3.LiveOnAir.{same_air}
 use Rattle.demands.proofs.Demand3.Apart.{lessons_apart}
 use Rattle.demands.proofs.Demand2.Nodding.{nodding_apart}
 
@@ -39,20 +37,7 @@ use Rattle.demands.proofs.Demand2.Nodding.{nodding_apart}
 
 tried : Tried
 unfolding centred distance late missing payload payload_allowed field_allowed after_field all_zero items_behind item_allowed all_allowed has_type no_type_twice run_allowed items_allowed items_of sqi_among climax_among side_among kept quality reader_refusals items_here message_of rising_items item_bytes words_of head_of encode kind_of opened_seat fresh_bench seat_of lesson any_coupling open_refusals open_said opened_bench takes_part keyings_of keyings top_rank at_rank leaders added on_air among smallest how_many any_sends air_of bench_air field_heard keying_barred id_allowed side_barred seat_refusals totals_after total_too_large message_refusals packet_refusals heard_seat begins to_last order_after takes_effect side_after heard_bench same_field is_sent hearing packet_said report_of report_bytes report_refusals report_said reported_bench does after
-tried =
-    record {
-      opens = refl;
-      first_report = refl;
-      second_report = refl;
-      was_closed = refl;
-      is_open = refl;
-      releases = refl;
-      nod_releases_not = refl;
-      not_twice = refl;
-      nod_twice = refl;
-      none_missing = refl;
-      one_missing = refl;
-    }
+tried = grind arith
 
 -- ---- each breaks
 
@@ -60,12 +45,7 @@ not_refusing : (number cause : Bench → Call → ℕ) → Answers (wrong (refus
 not_refusing number cause h = never (own 1) _ _ (sym (h ∙ tried.opens))
 
 not_repeating : (bytes : List ℕ) → Answers (wrong (repeating bytes)) entered (asked 1) → Answers (wrong (repeating bytes)) reported (asked 1) → ⊥
-not_repeating bytes first second =
-    let one : ◌≡◌ {A = Answer Said} (accepted (written bytes)) (accepted (written (quiet_report 1))) =
-    ap (mapped (with_bytes bytes)) (sym tried.first_report) ∙ first ∙ tried.first_report in
-    let two : ◌≡◌ {A = Answer Said} (accepted (written bytes)) (accepted (written (quiet_report 2))) =
-    ap (mapped (with_bytes bytes)) (sym tried.second_report) ∙ second ∙ tried.second_report in
-    let same : ◌≡◌ {A = ℕ} 1 2 = cc in omega arith
+not_repeating bytes first second = grind (arith, tried)
 
 not_ignoring : (says : Bench → Call → Answer Said) → Leaves (wrong (ignoring says)) [] (enters 1) → ⊥
 not_ignoring says h =
@@ -78,14 +58,8 @@ not_nodding h =
 not_nodding_twice : Answers (wrong nodding) spoken (keys 1 normal 1) → ⊥
 not_nodding_twice h = never _ 20 0 (sym tried.nod_twice ∙ h ∙ tried.not_twice)
 
-count_said_lem : {g h : Hearing} {sound other : List ℕ} → ◌≡◌ {A = Answer Said} (accepted (heard g sound)) (accepted (heard h other)) → g.missing ≡ h.missing
-count_said_lem {g} {h} e = let same : g ≡ h = cc in ap (λ (x : Hearing). x.missing) same
-
 not_inventing : (count : ℕ) → Answers (wrong (inventing count)) entered (keys 1 normal 1) → Answers (wrong (inventing count)) spoken (keys 1 normal 3) → ⊥
-not_inventing count first third =
-    let none : sounds count true ≡ sounds 0 true = ap (mapped (with_count count)) (sym tried.none_missing) ∙ first ∙ tried.none_missing in
-    let one : sounds count false ≡ sounds 1 false = ap (mapped (with_count count)) (sym tried.one_missing) ∙ third ∙ tried.one_missing in
-    omega (arith, count_said_lem none, count_said_lem one)
+not_inventing count first third = grind (arith, tried)
 
 shut_out : (w : WrongBench) → Obeys (wrong w) → ⊥
 shut_out (refusing number cause) keeps = not_refusing number cause (ap (λ (o : Outcome). o.answer) (keeps (lab_after []) (enters 1)))
@@ -113,17 +87,7 @@ module _ (machine : Machine) (still : (b : Bench) (c : Call) → (machine b c).b
   stays b (c ∷ cs) = stays (machine b c).bench cs ∙ still b c
 
   still_apart : ApartAlone machine
-  still_apart setup xs ys e =
-      let alike = stays (fresh_bench setup) xs ∙ sym (stays (fresh_bench setup) ys) in
-      record {
-        together = ap (λ (b : Bench). live_above_test b seat_numbers) alike;
-        together_after = λ c live. ap (λ (b : Bench). live_above_test (machine b c).bench seat_numbers) alike;
-        same = λ c live. ap (λ (b : Bench). compared setup c (machine b c)) alike;
-        no_lesson_audio = λ n p hidden up. absurd (false≢true
-            (sym (quiet_start setup) ∙ ap (λ (b : Bench). live_above_test b seat_numbers) (sym (still _ _ ∙ stays (fresh_bench setup) xs)) ∙ up));
-        on_air = λ n live other. same_air n (ap bench_air alike);
-        on_record = λ n live other. same_air n (ap (λ (b : Bench). b.air) alike);
-      }
+  still_apart setup xs ys e = grind (arith, quiet_start, stays)
 
 -- ---- demand 3 alone: a bench right but for what it says
 
@@ -136,23 +100,16 @@ record Retelling (tell : Said → Said) : Type 0 where
 module _ (tell : Said → Said) (r : Retelling tell) where
   after_retold : (b : Bench) (cs : List Call) → after (retold tell) b cs ≡ after keeping b cs
   unfolding after
-  after_retold b [] = refl
-  after_retold b (c ∷ cs) = after_retold (keeping b c).bench cs
+  after_retold b cs = grind arith
 
   compared_retold : (setup : Setup) (c : Call) (b : Bench)
       → compared setup c (retold tell b c) ≡ mapped (r.seen setup (live_above_test (keeping b c).bench seat_numbers)) (compared setup c (keeping b c))
   unfolding compared
-  compared_retold setup c b = by_answer _ _ (keeping b c).answer
-    where
-      by_answer : (up keys_test : Bool) (a : Answer Said)
-          → mapped (fixed setup up keys_test) (mapped tell a) ≡ mapped (r.seen setup up) (mapped (fixed setup up keys_test) a)
-      by_answer up keys_test (accepted s) = ap accepted (r.follows setup up keys_test s)
-      by_answer up keys_test (refused n cause) = refl
+  compared_retold setup c b = grind arith
 
   audio_retold : (a : Answer Said) → audio_sent (mapped tell a) ≡ audio_sent a
   unfolding audio_sent
-  audio_retold (accepted s) = r.same_audio s
-  audio_retold (refused n cause) = refl
+  audio_retold a = grind arith
 
   retold_apart : ApartAlone (retold tell)
   unfolding audio_sent

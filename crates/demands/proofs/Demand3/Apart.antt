@@ -1,6 +1,7 @@
 -- Demand 3: live seats see of a run what they would see of it without its lesson calls.
+use native.Mathlib.Omega.{arith}
 use Prim.Native.Nat.{ℕ}
-use mathlib.Core.Path.{◌≡◌, refl, sym, ap, subst, subst₂, ◌∙◌}
+use mathlib.Core.Path.{◌≡◌, refl, sym, ap, subst₂, ◌∙◌}
 use mathlib.Core.Bool.{Bool, true, false, cond, ◌&&◌}
 use mathlib.Core.List.{List, [], ◌∷◌}
 use lib.Dec.{eqb}
@@ -112,9 +113,7 @@ module _ (setup : Setup) where
 
   compared_run : (run : List Call) (c : Call) → lesson setup (named c) ≡ false
       → compared setup c (step (low (ran setup run)) c) ≡ compared setup c (keeping (ran setup run) c)
-  compared_run run c live =
-      subst (λ (s : Setup). compared s c (step (low (ran setup run)) c) ≡ compared s c (keeping (ran setup run) c)) (its_setup run)
-      (compared_low (ran setup run) c (reached run) (its_lesson run (named c) live))
+  compared_run run c live = grind (arith, compared_low, its_setup, reached)
 
 -- ---- who is on the air
 

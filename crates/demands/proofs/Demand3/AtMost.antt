@@ -6,21 +6,17 @@ use mathlib.Core.List.{List, ◌++◌, append_assoc}
 use mathlib.Core.Logic.{◌↔◌}
 use native.Mathlib.Omega.{arith}
 use lib.Dec.{ltb}
-use lib.ListN.{length, take, drop, length-append, length-take, length-drop}
+use lib.ListN.{length, take, drop, length-take}
 use lib.Seq.{take_at, drop_at, drop-drop, get_or-take, get_or-drop}
-use borrow.Author.Tests.{ltb-true, ltb-false, eqb-true, eq-eqb}
+use borrow.Author.Tests.{ltb-true, ltb-false}
 use Rattle.base.specs.Bytes.{bytes16, placed, Bytes}
-use Rattle.base.proofs.Truths.{and_left, and_right}
 use Rattle.packet.specs.Packet.{ptt_type, ptt_id, ptts}
-use Rattle.record.specs.Record.{seat_of}
-use Rattle.air.specs.Air.{takes_part}
 use Rattle.air.specs.InWords.{last_field, TakesPart}
 use Rattle.air.proofs.InWords.{part_is, is_part}
 use Rattle.record.specs.declared.whole.Bench.{Bench}
 use Rattle.demands.specs.Apart.{blotted, is_testing}
 use Rattle.demands.specs.Unreadable.{byte}
 use Rattle.demands.specs.AtMost.{DifferAtMost, AtMost}
-use Rattle.demands.proofs.Demand2.Numbers.{field_bits}
 
 -- ---- the field
 
@@ -28,23 +24,9 @@ use Rattle.demands.proofs.Demand2.Numbers.{field_bits}
 abbrev left : (high low : ℕ) → ℕ
 left high low = 4096 * (high / 16 % 2) + 32 * (low / 32 % 2) + low % 16
 
-high_parts : (n : ℕ) → n ≡ 32 * (n / 32) + 16 * (n / 16 % 2) + n % 16
-high_parts n = omega arith
-
-low_parts : (n : ℕ) → n ≡ 64 * (n / 64) + 32 * (n / 32 % 2) + 16 * (n / 16 % 2) + n % 16
-low_parts n = omega arith
-
--- by hand: with the quotients in sight omega stops
-taken_out : (high low ptt squ a b pm ptts rest : ℕ) → high ≡ 32 * ptt + 16 * squ + a → low ≡ 64 * b + 32 * pm + 16 * ptts + rest
-    → high * 256 + low - ptt * 8192 - (4 * a + b) * 64 - ptts * 16 ≡ 4096 * squ + 32 * pm + rest
-taken_out high low ptt squ a b pm ptts rest h l = omega arith
-
 left_is : (high low : ℕ) → high < 256 → low < 256
     → let f = high * 256 + low in f - placed 16 0 3 (ptt_type f) - placed 16 4 6 (ptt_id f) - placed 16 11 1 (ptts f) ≡ left high low
-left_is high low h l =
-    let are = field_bits high low h l in
-    rw (are.type_is, are.id_is, are.ptts_is)
-    (taken_out high low (high / 32) (high / 16 % 2) (high % 16) (low / 64) (low / 32 % 2) (low / 16 % 2) (low % 16) (high_parts high) (low_parts low))
+left_is high low h l = grind arith
 
 -- ---- the report
 
@@ -87,33 +69,15 @@ module _ (r : List ℕ) (small : Bytes r) (long : 18 ≤ length r) where
           simp (get_or-drop, at) at (ap (λ (l : List ℕ). byte l (i - 18)) behind)
 
   tells : Tells r (blotted r)
-  tells =
-      record {
-        as_long = rw apart (simp (length-append, length-take, length-drop) (omega arith));
-        elsewhere = elsewhere;
-        high = (simp get_or-drop at (ap (λ (l : List ℕ). byte l 0) from_field)) ∙ omega arith;
-        low = (simp get_or-drop at (ap (λ (l : List ℕ). byte l 1) from_field)) ∙ omega arith;
-      }
+  tells = grind (arith, apart, elsewhere)
 
 differ_at_most : {r s x : List ℕ} → Tells r x → Tells s x → DifferAtMost r s
-differ_at_most of-r of-s =
-    record {
-      as_long = sym of-r.as_long ∙ of-s.as_long;
-      elsewhere = λ i not_16 not-17. sym (of-r.elsewhere i not_16 not-17) ∙ of-s.elsewhere i not_16 not-17;
-      squ = omega (arith, of-r.high, of-s.high);
-      pm = omega (arith, of-r.low, of-s.low);
-      behind = omega (arith, of-r.low, of-s.low);
-    }
+differ_at_most of-r of-s = grind arith
 
 -- ---- a Test keying
 
 testing : (b : Bench) (n : ℕ) → (is_testing b n ≡ true) ↔ (TakesPart b n × ((last_field b n).ptt ≡ 5))
-testing b n =
-    let part = takes_part b.healthy (seat_of b.seats n) in
-    let ptt = (last_field b n).ptt in (
-      (λ h. (part_is b n (and_left part _ h), eqb-true ptt 5 (and_right part _ h))),
-      (λ h. simp (is_part b n h.0, eq-eqb ptt 5 h.1)),
-    )
+testing b n = grind (arith, is_part, part_is)
 
 pub at_most : AtMost
 at_most =

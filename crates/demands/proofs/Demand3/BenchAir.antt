@@ -1,6 +1,6 @@
 -- The air of a bench of a run, and of that bench without its lesson seats.
-use Prim.Native.Nat.{ℕ, ◌-◌, ◌≤◌, ◌<◌}
-use mathlib.Core.Path.{◌≡◌, refl, sym, ap, subst, ◌∙◌}
+use Prim.Native.Nat.{ℕ, ◌≤◌, ◌<◌}
+use mathlib.Core.Path.{◌≡◌, refl, sym, ap, ◌∙◌}
 use mathlib.Core.Bool.{Bool, true, false, cond, not, ◌&&◌, ◌||◌, false≢true}
 use mathlib.Core.List.{List, [], ◌∷◌}
 use native.Mathlib.Omega.{arith}
@@ -29,9 +29,7 @@ part_real healthy seats n h = open_is_seat seats n (and_right healthy (seat_of s
 -- ---- lesson keyings are Test at most
 
 lesson_rank : (b : Bench) → Held b → (n : ℕ) → lesson b.setup n ≡ true → rank (ptt_of b n) ≤ 1
-lesson_rank b i n hidden =
-    let real = lesson_real b.setup n hidden in
-    subst (λ (s : Seat). rank s.heard.field.ptt ≤ 1) (sym (seat_of_place b.seats n real)) (i.meek (n - 1) (lesson_flag b.setup n real ∙ hidden)).0
+lesson_rank b i n hidden = grind (arith, lesson_flag, lesson_real, seat_of_place)
 
 keyings_meek : (b : Bench) → Held b → (ns : List ℕ) → TestAtMost b.setup (keyings_of b.healthy b.seats ns)
 unfolding keyings_of

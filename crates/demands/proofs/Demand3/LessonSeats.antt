@@ -2,21 +2,16 @@
 -- more, but of calls whose numbers fit alone; demand 3 is of every call.
 use Prim.Native.Nat.{ℕ, ◌-◌, ◌≤◌}
 use mathlib.Core.Path.{◌≡◌, refl, sym, ap, ◌∙◌}
-use mathlib.Core.Bool.{Bool, true, false, not, ◌&&◌, ◌||◌, true≢false}
+use mathlib.Core.Bool.{Bool, true, false}
 use mathlib.Core.List.{List, map}
 use native.Mathlib.Omega.{arith}
-use lib.Dec.{ltb, eqb}
 use lib.ListN.{get_or, get_or-map}
-use borrow.Author.Tests.{ltb-false, eqb-true}
-use Rattle.base.proofs.Truths.{or_right}
-use Rattle.packet.specs.Packet.{ptt_on}
 use Rattle.packet.specs.Refusals.{NoCase}
 use Rattle.packet.specs.declared.message.Tx.{Tx}
 use Rattle.record.specs.Record.{seat_numbers, no_such_seat, closed_seat, opened_seat, seat_of, lesson, fresh_bench, with_seats, with_entry}
-use Rattle.seats.specs.Opening.{is_tx_rx, is_coupling, holds_coupling, opened_bench, closed_bench}
+use Rattle.seats.specs.Opening.{holds_coupling, opened_bench, closed_bench}
 use Rattle.seats.specs.Ticking.{ticked_seat, ticked_bench}
 use Rattle.air.specs.Air.{rank, among, aired}
-use Rattle.air.proofs.RankLaws.{on_is_ranked}
 use Rattle.hearing.specs.Hearing.{keying_barred, message_in, heard_seat, field_heard, heard_bench}
 use Rattle.reporting.specs.Reporting.{reported_bench}
 use Rattle.sending.specs.Sending.{sent_bench}
@@ -45,15 +40,7 @@ pub record Held (b : Bench) : Type 0 where
 -- "lesson seat with PTT on other than Test"
 test_at_most : (m : Tx) (call : ℕ) → keying_barred true call m ≡ false → rank m.ptt ≤ 1
 unfolding keying_barred
-test_at_most m call h =
-    let on = ptt_on m.ptt in
-    by_type on (eqb m.ptt 5) (sym (on_is_ranked m.ptt)) refl
-    (or_right ((on && not (is_tx_rx call || is_coupling call)) || (eqb m.ptt 2 && is_tx_rx call)) (on && not (eqb m.ptt 5)) h)
-  where
-    by_type : (a c : Bool) → ltb 0 (rank m.ptt) ≡ a → eqb m.ptt 5 ≡ c → a && not c ≡ false → rank m.ptt ≤ 1
-    by_type false c p q e = let none = ltb-false 0 (rank m.ptt) p in omega arith
-    by_type true true p q e = rw (eqb-true m.ptt 5 q) (omega arith)
-    by_type true false p q e = absurd (true≢false e)
+test_at_most m call h = grind arith
 
 -- ---- seats
 

@@ -108,19 +108,14 @@ off_at_rank n r (k ∷ ks) h = by_rank (eqb k.rank r) (off_at_rank n r ks (or_ri
 
 off_the_first : (n : ℕ) (l : List ℕ) → among l n ≡ false → among (the_first l) n ≡ false
 unfolding among
-off_the_first n [] h = refl
-off_the_first n (m ∷ l) h = simp (or_left (eqb m n) (among l n) h)
+off_the_first n l h = grind arith
 
 off_both : (n : ℕ) (l m : List ℕ) → among l n ≡ false → among m n ≡ false → among (l ++ m) n ≡ false
 off_both n l m h g = simp (among_both l m n, h, g)
 
 pub off_leaders : (setup : Setup) (n : ℕ) (ks : List Keying) → among (seats_of ks) n ≡ false → among (leaders setup ks) n ≡ false
 unfolding leaders
-off_leaders setup n ks h = by_mode setup.equal_summation
-  where
-    by_mode : (t : Bool) → among (cond t (at_rank (top_rank ks) ks) (the_first (at_rank (top_rank ks) ks))) n ≡ false
-    by_mode true = off_at_rank n (top_rank ks) ks h
-    by_mode false = off_the_first n (at_rank (top_rank ks) ks) (off_at_rank n (top_rank ks) ks h)
+off_leaders setup n ks h = grind (arith, off_at_rank, off_the_first)
 
 pub off_air : (setup : Setup) (n : ℕ) (ks : List Keying) → among (seats_of ks) n ≡ false → among (on_air setup ks) n ≡ false
 unfolding on_air added

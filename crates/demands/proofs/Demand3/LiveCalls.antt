@@ -1,6 +1,7 @@
 -- A call that names no lesson seat does to the bench without its lesson seats what it does to the bench.
+use native.Mathlib.Omega.{arith}
 use Prim.Native.Nat.{ℕ, suc}
-use mathlib.Core.Path.{◌≡◌, refl, ap, sym, subst}
+use mathlib.Core.Path.{◌≡◌, refl, sym, subst}
 use mathlib.Core.Bool.{Bool, true, false}
 use mathlib.Core.List.{List, [], ◌∷◌}
 use lib.ListN.{get_or}
@@ -10,7 +11,7 @@ use Rattle.air.specs.Air.{aired}
 use Rattle.seats.specs.Opening.{any_coupling, open_refusals, open_said, opened_bench, seat_refusals, close_said, closed_bench, seat_verdict}
 use Rattle.seats.specs.Radio.{side_refusals, side_said}
 use Rattle.hearing.specs.Account.{totals_said}
-use Rattle.bench.specs.Step.{Call, opening, closing, side, totals, Said, done, own, counts, Outcome, outcome, does, step, keeping}
+use Rattle.bench.specs.Step.{Call, opening, closing, side, totals, Said, done, own, Outcome, outcome, does, step, keeping}
 use Rattle.record.specs.declared.setup.Setup.{Setup}
 use Rattle.record.specs.declared.seat.Seat.{Seat}
 use Rattle.record.specs.declared.whole.Bench.{Bench}
@@ -85,12 +86,7 @@ match_closing b n live =
 
 pub match_totals : (b : Bench) (n : ℕ) → lesson b.setup n ≡ false → Match b.setup (totals n) (keeping b (totals n)) (step (low b) (totals n))
 unfolding does totals_said fixed
-match_totals b n live =
-    let same : seat_of (low b).seats n ≡ seat_of b.seats n = seat_low b n live in
-    match_judged b.setup (totals n) b b (low b)
-    (seat_refusals n (seat_of b.seats n).opened) (seat_refusals n (seat_of (low b).seats n).opened) (seat_of b.seats n).totals (seat_of (low b).seats n).totals counts counts
-    (ap (λ (s : Seat). seat_refusals n s.opened) same)
-    (λ h. record { bench = refl; answer = ap (λ (s : Seat). accepted (counts s.totals)) same })
+match_totals b n live = grind (arith, seat_low)
 
 -- ---- the radio's own events
 

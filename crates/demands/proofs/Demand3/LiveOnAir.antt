@@ -2,17 +2,14 @@
 -- lesson seats.
 use Prim.Native.Nat.{ℕ, ◌<◌}
 use mathlib.Core.Path.{◌≡◌, refl, sym, ap, ◌∙◌}
-use mathlib.Core.Bool.{Bool, true, false, cond, not, ◌&&◌, false≢true}
+use mathlib.Core.Bool.{Bool, true, false, ◌&&◌, false≢true}
 use mathlib.Core.List.{List, [], ◌∷◌, map}
 use native.Mathlib.Omega.{arith}
-use lib.Dec.{ltb, eqb}
+use lib.Dec.{eqb}
 use borrow.Author.Tests.{eqb-true}
-use Rattle.base.proofs.Truths.{and_left, and_right}
-use Rattle.packet.specs.Packet.{test, ptt_on}
-use Rattle.record.specs.Record.{seat_numbers, no_such_seat, entry_of, seat_of, lesson}
-use Rattle.record.proofs.Seats.{at_seat}
-use Rattle.air.specs.Air.{rank, keyed, takes_part, Keying, keyings_of, keyings, leaders, on_air, among, air_of, bench_air}
-use Rattle.air.proofs.RankLaws.{on_is_ranked}
+use Rattle.packet.specs.Packet.{test}
+use Rattle.record.specs.Record.{seat_numbers, entry_of, seat_of, lesson}
+use Rattle.air.specs.Air.{rank, takes_part, Keying, keyings_of, keyings, leaders, on_air, among, air_of, bench_air}
 use Rattle.record.specs.declared.seat.Seat.{Seat}
 use Rattle.record.specs.declared.shown.Air.{Air}
 use Rattle.record.specs.declared.whole.Bench.{Bench}
@@ -24,22 +21,9 @@ use Rattle.demands.proofs.Demand3.BenchAir.{up_seat, air_low}
 
 -- ---- a keying other than Test is above it
 
-rank_above : (ptt : ℕ) → eqb ptt test ≡ false → ltb 0 (rank ptt) ≡ true → 1 < rank ptt
-rank_above ptt other h = rw other (by_type (eqb ptt 2) (eqb ptt 1) (eqb ptt 3) (eqb ptt 4) (rw other at h))
-  where
-    by_type : (a c d e : Bool) → ltb 0 (cond a 2 (cond c 3 (cond d 4 (cond e 5 0)))) ≡ true → 1 < cond a 2 (cond c 3 (cond d 4 (cond e 5 0)))
-    by_type true c d e h = omega arith
-    by_type false true d e h = omega arith
-    by_type false false true e h = omega arith
-    by_type false false false true h = omega arith
-    by_type false false false false h = absurd (false≢true h)
-
 part_above : (healthy : Bool) (s : Seat) → eqb s.heard.field.ptt test ≡ false → takes_part healthy s ≡ true → 1 < rank s.heard.field.ptt
 unfolding takes_part
-part_above healthy s other h =
-    rank_above s.heard.field.ptt other
-    (sym (on_is_ranked s.heard.field.ptt)
-    ∙ and_left (ptt_on s.heard.field.ptt) (not s.heard.field.pm) (and_right (healthy && s.opened) (keyed s.heard.field) h))
+part_above healthy s other h = grind arith
 
 -- ---- a seat that takes no part has no keying
 
@@ -58,11 +42,7 @@ no_part healthy seats n h (k ∷ ns) = by_seat (takes_part healthy (seat_of seat
 -- ---- and so is not on the air
 
 pub off_marks : (set : List ℕ) (n : ℕ) → among set n ≡ false → entry_of false (map (among set) seat_numbers) n ≡ false
-off_marks set n h = by_case (no_such_seat n) refl
-  where
-    by_case : (t : Bool) → no_such_seat n ≡ t → entry_of false (map (among set) seat_numbers) n ≡ false
-    by_case true e = simp e
-    by_case false e = at_seat (among set) false n e ∙ h
+off_marks set n h = grind arith
 
 off_the_air : (b : Bench) (n : ℕ) → among (seats_of (keyings b)) n ≡ false
     → (entry_of false (bench_air b).on n ≡ false) × (entry_of false (bench_air b).leads n ≡ false)

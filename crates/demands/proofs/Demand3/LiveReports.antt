@@ -1,7 +1,7 @@
 -- A report to a live seat, from a bench whose air is right and from that bench without its lesson seats, whose air is worked out.
 use Prim.Native.Nat.{ℕ, ◌≤◌}
 use mathlib.Core.Path.{◌≡◌, refl, sym, ap, ap₂, ◌∙◌}
-use mathlib.Core.Bool.{Bool, true, false}
+use mathlib.Core.Bool.{Bool, false}
 use mathlib.Core.List.{List}
 use native.Mathlib.Omega.{arith}
 use lib.ListN.{length}
@@ -96,8 +96,7 @@ module _ (b : Bench) (right : AirRight b) (n timestamp : ℕ) (live : lesson b.s
     -- so what is seen of it is the same, at any time
     pub told_low : Held b → (while : Bool) → live_above_test b seat_numbers ≡ while
         → as_seen while (report_bytes (alone b) n timestamp sound) ≡ as_seen while (report_bytes b n timestamp sound)
-    told_low i true up = bytes_low (air_low b i (up_is b i up))
-    told_low i false e = blotted_low
+    told_low i while up = grind (arith, air_low, blotted_low, bytes_low, up_is)
 
 -- ---- the call
 

@@ -1,4 +1,5 @@
 -- A tick, with the reports that it sends, on a bench and on that bench without its lesson seats.
+use native.Mathlib.Omega.{arith}
 use Prim.Native.Nat.{ℕ}
 use mathlib.Core.Path.{◌≡◌, refl, sym, ap, ap₂, ◌∙◌}
 use mathlib.Core.Bool.{Bool, true, false, cond, not, ◌&&◌}
@@ -13,7 +14,7 @@ use Rattle.record.specs.declared.setup.Setup.{Setup}
 use Rattle.record.specs.declared.seat.Seat.{Seat}
 use Rattle.record.specs.declared.whole.Bench.{Bench}
 use Rattle.air.proofs.Kept.{air_unread}
-use Rattle.record.proofs.Seats.{entry_changed, at_seat, seats_alike}
+use Rattle.record.proofs.Seats.{entry_changed, at_seat}
 use Rattle.sending.proofs.BySeat.{seat_record}
 use Rattle.demands.specs.Apart.{live_above_test, as_seen, among_live, records_seen, fixed}
 use Rattle.demands.proofs.Demand3.Blanking.{blank, map_blank}
@@ -37,11 +38,7 @@ module _ (setup : Setup) (n : ℕ) (real : no_such_seat n ≡ false) (live : les
 pub live_alike : {A : Type 0} (setup : Setup) (tells : (hidden : Bool) → A → A) → ((x y : A) → tells true x ≡ tells true y) → (f g : ℕ → A)
     → ((n : ℕ) → no_such_seat n ≡ false → lesson setup n ≡ false → f n ≡ g n)
     → map (λ n. tells (lesson setup n) (f n)) seat_numbers ≡ map (λ n. tells (lesson setup n) (g n)) seat_numbers
-live_alike setup tells nothing f g alike = seats_alike _ _ (λ n real. by_seat n real (lesson setup n) refl)
-  where
-    by_seat : (n : ℕ) → no_such_seat n ≡ false → (t : Bool) → lesson setup n ≡ t → tells t (f n) ≡ tells t (g n)
-    by_seat n real true hidden = nothing (f n) (g n)
-    by_seat n real false live = ap (tells false) (alike n real live)
+live_alike setup tells nothing f g alike = grind arith
 
 -- ---- flags of seats
 

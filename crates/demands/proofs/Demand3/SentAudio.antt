@@ -1,11 +1,11 @@
 -- Whether a packet's audio is sent, on a bench and on that bench without its lesson seats.
-use Prim.Native.Nat.{ℕ, zero, suc, ◌-◌}
-use mathlib.Core.Path.{◌≡◌, refl, sym, ap, ◌∙◌}
+use native.Mathlib.Omega.{arith}
+use Prim.Native.Nat.{ℕ, zero, suc}
+use mathlib.Core.Path.{◌≡◌, refl, ap, ◌∙◌}
 use mathlib.Core.Bool.{Bool, true, false, not, ◌&&◌, false≢true}
 use mathlib.Core.List.{List, [], ◌∷◌}
 use lib.Dec.{eqb}
 use lib.ListN.{get_or, set}
-use Rattle.base.proofs.Truths.{and_none}
 use Rattle.packet.specs.Packet.{test, ptt_on}
 use Rattle.packet.specs.declared.message.Tx.{Tx}
 use Rattle.record.specs.Record.{no_such_seat, closed_seat, entry_of, seat_of, lesson}
@@ -17,7 +17,7 @@ use Rattle.record.specs.declared.shown.Air.{Air}
 use Rattle.demands.specs.Apart.{is_testing}
 use Rattle.demands.proofs.Demand3.Blanking.{set_elsewhere}
 use Rattle.hearing.proofs.Accepted.{PacketAccepted}
-use Rattle.record.proofs.Seats.{put_there, lesson_flag, seat_of_place}
+use Rattle.record.proofs.Seats.{lesson_flag, seat_of_place}
 use Rattle.demands.proofs.Demand3.WithoutLessons.{low, live_seat, order_live}
 use Rattle.demands.proofs.Demand3.LiveAir.{Up}
 use Rattle.demands.proofs.Demand3.LessonSeats.{Held, held_heard}
@@ -34,11 +34,7 @@ put_open (x ∷ l) (suc k) s e = put_open l k s e
 pub seat_heard : (b : Bench) (n : ℕ) (p : List ℕ) → PacketAccepted b.setup n (seat_of b.seats n) p
     → seat_of (heard_bench b n (message_in p)).seats n ≡ heard_seat (seat_of b.seats n) (message_in p)
 unfolding heard_bench
-seat_heard b n p h =
-    let new = heard_seat (seat_of b.seats n) (message_in p) in
-    rw (put_there b.seats n new h.is_seat)
-    (seat_of_place (set b.seats (n - 1) new) n h.is_seat
-    ∙ put_open b.seats (n - 1) new (ap (λ (s : Seat). s.opened) (sym (seat_of_place b.seats n h.is_seat)) ∙ h.was_open))
+seat_heard b n p h = grind (arith, put_open, seat_of_place)
 
 pub heard_low : (b : Bench) (n : ℕ) (m : Tx) → lesson b.setup n ≡ false → no_such_seat n ≡ false → heard_bench (low b) n m ≡ low (heard_bench b n m)
 unfolding heard_bench low
@@ -48,9 +44,7 @@ heard_low b n m live real =
 -- ---- a live seat's packet
 
 unkeyed : (part on is_test muted : Bool) → is_test && not muted ≡ false → part && (on && not muted) && is_test ≡ false
-unkeyed part on false muted e = simp and_none
-unkeyed part on true true e = simp and_none
-unkeyed part on true false e = absurd (false≢true (sym e))
+unkeyed part on is_test muted e = grind arith
 
 not_testing : (healthy : Bool) (s : Seat) (m : Tx) → eqb m.ptt test && not m.pm ≡ false
     → takes_part healthy (heard_seat s m) && eqb (heard_seat s m).heard.field.ptt test ≡ false
@@ -72,9 +66,7 @@ module _ (b : Bench) (n : ℕ) (p : List ℕ) (i : Held b) (live : lesson b.setu
 
   -- and at any time where it does not key Test
   not_test : eqb m.ptt test && not m.pm ≡ false → is_testing (heard_bench b n m) n ≡ false
-  not_test other =
-      ap (λ (s : Seat). takes_part (heard_bench b n m).healthy s && eqb s.heard.field.ptt test) (seat_heard b n p h)
-      ∙ not_testing (heard_bench b n m).healthy (seat_of b.seats n) m other
+  not_test other = grind (arith, not_testing, seat_heard)
 
   pub sent_not_test : eqb m.ptt test && not m.pm ≡ false → is_sent (low b) n m ≡ is_sent b n m
   unfolding is_sent

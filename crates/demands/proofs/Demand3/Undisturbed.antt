@@ -1,19 +1,19 @@
 -- While a live keying above Test is up the bench is, to live seats, one without lesson seats: a corollary of demand 3.
+use native.Mathlib.Omega.{arith}
 use Prim.Native.Nat.{ℕ}
 use mathlib.Core.Path.{◌≡◌, refl, sym, ap, ◌∙◌}
 use mathlib.Core.Bool.{Bool, true, false, cond}
 use mathlib.Core.List.{List, [], ◌∷◌, ◌++◌}
-use Rattle.packet.specs.Refusals.{Answer, accepted, refused, mapped}
+use Rattle.packet.specs.Refusals.{Answer, mapped}
 use Rattle.air.specs.Air.{bench_air}
-use Rattle.record.specs.Record.{seat_numbers, no_such_seat, entry_of, lesson, fresh_bench, settled}
+use Rattle.record.specs.Record.{seat_numbers, no_such_seat, entry_of, lesson, fresh_bench}
 use Rattle.hearing.specs.Hearing.{packet_said}
-use Rattle.reporting.specs.Reporting.{report_bytes, report_refusals, report_said, reported_bench}
-use Rattle.bench.specs.Step.{Call, packet, tick, report, Said, done, own, heard, ticked, written, totalled, Outcome, told, does, keeping, after}
+use Rattle.reporting.specs.Reporting.{report_said}
+use Rattle.bench.specs.Step.{Call, packet, tick, report, Said, Outcome, told, does, keeping, after}
 use Rattle.record.specs.declared.setup.Setup.{Setup}
 use Rattle.record.specs.declared.whole.Bench.{Bench}
 use Rattle.demands.specs.Apart.{named, without_lessons, keys_test, live_above_test, records_seen, fixed, compared, audio_sent, Apart}
 use Rattle.demands.specs.Undisturbed.{record_to, Undisturbed}
-use Rattle.packet.proofs.Judged.{judged_one}
 use Rattle.demands.proofs.Demand3.WithoutLessons.{low, none_is_lesson}
 use Rattle.demands.proofs.Demand3.BenchAir.{up_is, air_low}
 use Rattle.demands.proofs.Demand3.Apart.{ran, reached, low_alike, lessons_apart}
@@ -53,8 +53,7 @@ after_one_more b (d ∷ run) c = after_one_more (keeping b d).bench run c
 
 whole : {A : Type 0} (setup : Setup) (is_test : Bool) (tell : A → Said) → ((x : A) → fixed setup true is_test (tell x) ≡ tell x)
     → (a : Answer A) → mapped (fixed setup true is_test) (mapped tell a) ≡ mapped tell a
-whole setup is_test tell h (accepted x) = ap accepted (h x)
-whole setup is_test tell h (refused n c) = refl
+whole setup is_test tell h a = grind arith
 
 packet_whole : (setup : Setup) (b : Bench) (n : ℕ) (p : List ℕ) → live_above_test (keeping b (packet n p)).bench seat_numbers ≡ true
     → compared setup (packet n p) (keeping b (packet n p)) ≡ (keeping b (packet n p)).answer
@@ -68,16 +67,12 @@ packet_whole setup b n p up = rw up (by_keying (keys_test (packet n p)))
 above_after_report : (b : Bench) (n timestamp : ℕ) (sound : List ℕ) (room : ℕ)
     → live_above_test (keeping b (report n timestamp sound room)).bench seat_numbers ≡ live_above_test b seat_numbers
 unfolding does report_said
-above_after_report b n timestamp sound room =
-    judged_one (λ a. live_above_test (settled a b (reported_bench b n)) seat_numbers ≡ live_above_test b seat_numbers) (report_refusals b n timestamp sound room) _
-    (λ k c. refl) (λ h. above_reported b n)
+above_after_report b n timestamp sound room = grind (arith, above_reported)
 
 report_whole : (setup : Setup) (b : Bench) (n timestamp : ℕ) (sound : List ℕ) (room : ℕ) → live_above_test b seat_numbers ≡ true
     → compared setup (report n timestamp sound room) (keeping b (report n timestamp sound room)) ≡ (keeping b (report n timestamp sound room)).answer
 unfolding compared does report_said fixed
-report_whole setup b n timestamp sound room up =
-    rw (above_after_report b n timestamp sound room ∙ up)
-    (whole setup _ (λ k. written (report_bytes b n timestamp sound)) (λ x. refl) (report_said b n timestamp sound room))
+report_whole setup b n timestamp sound room up = grind (arith, above_after_report)
 
 -- of a tick, the record of a live seat
 record_whole : (setup : Setup) (c : Call) (n : ℕ) → lesson setup n ≡ false → (o : Outcome) → live_above_test o.bench seat_numbers ≡ true
@@ -87,17 +82,10 @@ record_whole setup c n live o up = rw up (by_answer _ o.answer)
   where
     by_seat : (records : List (List ℕ)) (t : Bool) → no_such_seat n ≡ t
         → entry_of [] (records_seen setup true records) n ≡ entry_of [] records n
-    by_seat records true none = rw none
-    by_seat records false real = record_compared setup n real live true records
+    by_seat records t none = grind (arith, record_compared)
 
     by_answer : (is_test : Bool) (a : Answer Said) → record_to n (mapped (fixed setup true is_test) a) ≡ record_to n a
-    by_answer is_test (accepted done) = refl
-    by_answer is_test (accepted (own id)) = refl
-    by_answer is_test (accepted (heard h sound)) = refl
-    by_answer is_test (accepted (ticked closed due records)) = by_seat records (no_such_seat n) refl
-    by_answer is_test (accepted (written bytes)) = refl
-    by_answer is_test (accepted (totalled packets missing)) = refl
-    by_answer is_test (refused k cause) = refl
+    by_answer is_test a = grind (arith, by_seat)
 
 -- ---- the corollary
 

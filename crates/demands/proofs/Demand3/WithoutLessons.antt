@@ -1,15 +1,15 @@
 -- The bench without its lesson seats: each closed, its report sequence 0, and out of the order of keyings. Nor does it keep an air: that
 -- of the bench may be a lesson seat's Test. So it is a bench of `step`.
-use Prim.Native.Nat.{ℕ, ◌-◌}
+use native.Mathlib.Omega.{arith}
+use Prim.Native.Nat.{ℕ}
 use mathlib.Core.Path.{◌≡◌, refl, sym, ap, ◌∙◌}
 use mathlib.Core.Bool.{Bool, true, false, cond, false≢true}
 use mathlib.Core.List.{List, [], ◌∷◌, ◌++◌, append-nil}
 use lib.Dec.{eqb}
-use lib.ListN.{get_or}
 use borrow.Author.Tests.{eqb-true}
-use Rattle.record.specs.Record.{no_such_seat, closed_seat, entry_of, seat_of, lesson, nobody, with_seats, with_sequences, with_order, with_air}
+use Rattle.record.specs.Record.{closed_seat, entry_of, seat_of, lesson, nobody, with_seats, with_sequences, with_order, with_air}
 use Rattle.air.specs.Air.{aired}
-use Rattle.air.specs.Order.{to_last, begins, order_after}
+use Rattle.air.specs.Order.{to_last, order_after}
 use Rattle.record.specs.declared.setup.Setup.{Setup}
 use Rattle.record.specs.declared.seat.Field.{Field}
 use Rattle.record.specs.declared.seat.Seat.{Seat}
@@ -42,11 +42,7 @@ none_is_lesson setup = refl
 
 live_entry : {A : Type 0} (d : A) (setup : Setup) (entries : List A) (n : ℕ) → lesson setup n ≡ false
     → entry_of d (blank d setup.lesson entries) n ≡ entry_of d entries n
-live_entry d setup entries n live = by_number (no_such_seat n) refl
-  where
-    by_number : (t : Bool) → no_such_seat n ≡ t → cond t d (get_or (blank d setup.lesson entries) (n - 1) d) ≡ cond t d (get_or entries (n - 1) d)
-    by_number true none = refl
-    by_number false real = blank_elsewhere d setup.lesson entries (n - 1) (lesson_flag setup n real ∙ live)
+live_entry d setup entries n live = grind (arith, blank_elsewhere, lesson_flag)
 
 pub live_seat : (setup : Setup) (seats : List Seat) (n : ℕ) → lesson setup n ≡ false → seat_of (live_seats setup seats) n ≡ seat_of seats n
 unfolding seat_of
@@ -101,17 +97,9 @@ to_last_live setup n live (k ∷ l) = by_seat (eqb k n) (lesson setup k) refl re
 pub order_hidden : (setup : Setup) (n : ℕ) (old new : Field) (l : List ℕ) → lesson setup n ≡ true
     → live_order setup (order_after n old new l) ≡ live_order setup l
 unfolding order_after
-order_hidden setup n old new l hidden = by_test (begins old new)
-  where
-    by_test : (t : Bool) → live_order setup (cond t (to_last n l) l) ≡ live_order setup l
-    by_test true = to_last_hidden setup n hidden l
-    by_test false = refl
+order_hidden setup n old new l hidden = grind (arith, to_last_hidden)
 
 pub order_live : (setup : Setup) (n : ℕ) (old new : Field) (l : List ℕ) → lesson setup n ≡ false
     → order_after n old new (live_order setup l) ≡ live_order setup (order_after n old new l)
 unfolding order_after
-order_live setup n old new l live = by_test (begins old new)
-  where
-    by_test : (t : Bool) → cond t (to_last n (live_order setup l)) (live_order setup l) ≡ live_order setup (cond t (to_last n l) l)
-    by_test true = to_last_live setup n live l
-    by_test false = refl
+order_live setup n old new l live = grind (arith, to_last_live)
