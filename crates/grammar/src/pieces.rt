@@ -8,6 +8,7 @@ use packet::Direction;
 use words::{choice, dash, half};
 
 // One of several words, each with its value in the same order.
+// kept: the words are one string, as `one_of` and `named_in` have them, these in the order of `help`.
 #[tactic(auto, unfolding(crate::specs::Said::one_of))]
 pub(crate) fn one_of<T: Copy>(w: &[u8], words: &[u8], values: &[T]) -> Option<T>
     ensures { result ≡ one_of w.now words.now values.now }
@@ -41,7 +42,7 @@ pub(crate) fn room(w: &[u8]) -> Option<usize>
     ensures { result ≡ room_in w.now }
 {
     let size = usize::from(half(w)?);
-    if size <= ROOM { Some(size) } else { None }
+    (size <= ROOM).then_some(size)
 }
 
 // AUDIO, as it was read, and ROOM.

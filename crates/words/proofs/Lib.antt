@@ -1,4 +1,5 @@
 pub mod Choices
+pub mod Digits
 pub mod Lines
 pub mod Values
 pub mod Nibbles

@@ -25,14 +25,8 @@ fn past<F: Fn(u8) -> bool>(s: &[u8], at: usize, passes: F) -> usize
     ensures place { (p : ℕ → Bool) → ((b : ℕ) (r : Bool) → F.post passes b r → r ≡ p b) → result ≡ past p s.now at }
     ensures within { (at ≤ result) × (at ≤ length s.now → result ≤ length s.now) }
 {
-    let mut end = at;
-    for b in part(s, at, s.len()) {
-        if !passes(*b) {
-            return end;
-        }
-        end += 1;
-    }
-    end
+    let rest = part(s, at, s.len());
+    at + rest.iter().position(|b| !passes(*b)).unwrap_or(rest.len())
 }
 
 // Where word n begins, counted from 0; where there are fewer words, the end of the last or the comment.
@@ -82,6 +76,7 @@ fn is_word(w: &[u8], s: &[u8]) -> bool
 }
 
 // The place of a word among the words of a list, counted from 0.
+// kept: a list is one string, searched by hand, as `choice_of` has it; `Tight` has a line for `choice`.
 #[tactic(auto, using(crate::proofs::Choices::choosing), unfolding(crate::specs::Input::choice_of, crate::specs::Input::word_at, crate::specs::Input::word_of))]
 pub fn choice(w: &[u8], list: &[u8]) -> Option<usize>
     ensures { result ≡ choice_of w.now list.now }
