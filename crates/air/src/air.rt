@@ -18,6 +18,7 @@ struct Ranked {
 }
 
 // Test, Coupling, Normal, Priority, Emergency, lowest first; 0 for off and for the reserved codes.
+// kept: numbers, by a match on the code with the reserved ones as a range, as 01 asks (DECISIONS, "Required forms").
 fn rank(ptt: u8) -> u8
     ensures { result ≡ rank ptt }
 {

@@ -3,7 +3,7 @@ ghost use Rattle.std.specs.Prelude.{◌≡◌, position};
 ghost use Rattle.base.specs.Lists.{how_many};
 ghost use Rattle.air.specs.Marks.{smallest_from};
 
-// The smallest seat that is marked, 0 if none is.
+// The smallest seat that is marked, 0 if none is. (kept: 0, which `Air.id` holds)
 #[tactic(auto, using(crate::proofs::Chains::smallest_found))]
 pub(crate) fn smallest(marks: &[bool; 8]) -> u8
     ensures { result ≡ smallest_from 1 marks.now }

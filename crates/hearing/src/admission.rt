@@ -1,7 +1,6 @@
 // Whether a message is let in: refusals 19 to 23, and 33.
 ghost use Rattle.std.specs.Prelude.{◌≡◌};
 ghost use Rattle.packet.specs.Refusals.{answer_of};
-ghost use Rattle.record.specs.Kind.{kind_of};
 ghost use Rattle.hearing.specs.Account.{totals_after, total_too_large};
 ghost use Rattle.hearing.specs.Hearing.{keying_barred, id_allowed, side_barred};
 ghost use Rattle.hearing.specs.Pieces.{message_verdict};
@@ -10,7 +9,7 @@ use crate::memory::missing_before;
 use base::{late, other_ssrc};
 use packet::{Refusal, Tx, ptt, ptt_on};
 use record::kind::{item_barred, kind_of};
-use record::{Seat, Setup, lesson_seat};
+use record::{Kind, Seat, Setup, lesson_seat};
 use seats::opening::{TX_RX, may_key, own_id};
 
 // Of heard plus missing, the most that a seat counts.
@@ -35,7 +34,7 @@ pub(crate) fn message_verdict(setup: Setup, n: u8, s: Seat, m: Tx) -> Result<(),
     if !id_allowed(own_id(n, s.call), m) {
         return Err(Refusal::OtherId);
     }
-    if side_barred(lesson, setup.kind, m) {
+    if side_barred(lesson, kind_of(setup.kind), m) {
         return Err(Refusal::SideNotAllowed);
     }
     if total_too_large(s, m) {
@@ -65,10 +64,10 @@ fn id_allowed(own: u8, m: Tx) -> bool
 
 // 23: a main/standby item that the kind of radio bars, or one from a lesson seat.
 #[tactic(auto, unfolding(crate::specs::Hearing::side_barred))]
-fn side_barred(lesson: bool, code: u8, m: Tx) -> bool
-    ensures { result ≡ side_barred lesson (kind_of code) m }
+fn side_barred(lesson: bool, kind: Kind, m: Tx) -> bool
+    ensures { result ≡ side_barred lesson kind m }
 {
-    item_barred(kind_of(code), m.side) || (lesson && m.side.is_some())
+    item_barred(kind, m.side) || (lesson && m.side.is_some())
 }
 
 // 33: heard plus missing would pass 4,000,000,000. In 64 bits, where the sum of any record fits.

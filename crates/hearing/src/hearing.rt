@@ -56,6 +56,7 @@ pub fn packet(b: Bench, n: u8, p: &[u8]) -> Answered<Hearing>
 }
 
 // The audio to send, as a part of the lent packet: its payload where the answer says that it is sent, else an empty part.
+// kept: an empty part and no Option, as 01 asks (`audio_in`).
 pub fn audio(answer: Result<Hearing, Refusal>, p: &[u8]) -> &[u8]
     ensures holds { result.now ≡ audio_in (answer_of answer) p.now }
     ensures lies { LiesAt p.entry (audio_at (answer_of answer) p.now) result }

@@ -1,6 +1,5 @@
 // What an accepted message leaves: what its seat keeps of it, the side in use, and the bench after it.
 ghost use Rattle.std.specs.Prelude.{◌≡◌, false};
-ghost use Rattle.record.specs.Kind.{kind_of};
 ghost use Rattle.record.specs.Record.{seat_of};
 ghost use Rattle.hearing.specs.Account.{missing_before, totals_after, total_too_large};
 ghost use Rattle.hearing.specs.Hearing.{field_heard, heard_seat, takes_effect, side_after, heard_bench};
@@ -9,7 +8,7 @@ use air::order::order_after;
 use base::missing;
 use packet::{Side, Tx};
 use record::kind::{items_move_side, kind_of};
-use record::{Bench, Field, Heard, Seat, Totals, set_entry};
+use record::{Bench, Field, Heard, Kind, Seat, Totals, set_entry};
 
 // The bench after an accepted message, s being the seat before it.
 #[tactic(auto, unfolding(crate::specs::Hearing::heard_bench))]
@@ -24,7 +23,7 @@ pub(crate) fn heard_bench(b: Bench, n: u8, s: Seat, m: Tx) -> Bench
     Bench {
         seats,
         order: order_after(n, old, new, b.order),
-        standby: side_after(b.setup.kind, old, new, b.standby),
+        standby: side_after(kind_of(b.setup.kind), old, new, b.standby),
         ..b
     }
 }
@@ -67,7 +66,7 @@ pub(crate) fn missing_before(last: Heard, m: Tx) -> u16
     missing(last.any, last.sequence, m.sequence)
 }
 
-// What the seat keeps of a message.
+// What the seat keeps of a message. (kept: no `From`, since both types are of other crates)
 #[tactic(auto, unfolding(crate::specs::Hearing::field_heard))]
 pub(crate) fn field_heard(m: Tx) -> Field
     ensures { result ≡ field_heard m }
@@ -86,10 +85,10 @@ pub(crate) fn field_heard(m: Tx) -> Field
 
 // The side in use after a packet.
 #[tactic(auto, unfolding(crate::specs::Hearing::side_after))]
-fn side_after(code: u8, old: Field, new: Field, standby: bool) -> bool
-    ensures { result ≡ side_after (kind_of code) old new standby }
+fn side_after(kind: Kind, old: Field, new: Field, standby: bool) -> bool
+    ensures { result ≡ side_after kind old new standby }
 {
-    if items_move_side(kind_of(code)) && takes_effect(old, new) {
+    if items_move_side(kind) && takes_effect(old, new) {
         new.standby
     } else {
         standby

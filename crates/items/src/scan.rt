@@ -5,18 +5,10 @@ ghost use Rattle.packet.specs.Items.{side_of};
 ghost use Rattle.items.specs.Scan.{take_sqi, take_climax, take_side, take_item, behind_value, in_zeros, past, is_ddc, begun, behind_item, step_of, scan_of, start_in, may_end, end_of};
 ghost use Rattle.items.specs.ItemsIn.{items_read};
 
-use packet::{Direction, Items, Side, Sqi, sqi_allowed};
-
-// The types of the table.
-const SQI: u8 = 1;
-
-const CLIMAX: u8 = 2;
-
-const DDC: u8 = 4;
-
-const SIDE: u8 = 5;
+use packet::{Direction, Items, Side, Sqi, item, sqi_allowed};
 
 // Where the scan stands.
+// kept: a step for each byte (`step_of`), by which proofs/Meaning.antt finds the list of items.
 #[derive(Clone, Copy)]
 pub enum Mode {
     // in the zeros at the end
@@ -98,9 +90,9 @@ fn take(d: Direction, items: Items, head: u8, b: u8) -> Option<Items>
         return None;
     }
     match head / 16 {
-        SQI => take_sqi(d, items, b),
-        CLIMAX => take_climax(d, items, b),
-        SIDE => take_side(items, b),
+        item::SQI => take_sqi(d, items, b),
+        item::CLIMAX => take_climax(d, items, b),
+        item::SIDE => take_side(items, b),
         _ => None,
     }
 }
@@ -144,7 +136,7 @@ fn past(n: u8) -> Mode
 fn is_ddc(b: u8) -> bool
     ensures { result ≡ is_ddc b }
 {
-    b / 16 == DDC
+    b / 16 == item::DDC
 }
 
 // An item's first byte. Of type 4 there is one, of any length, and its value is stepped over (02, request 1).

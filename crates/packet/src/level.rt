@@ -15,14 +15,9 @@ const FAINT: i16 = -1000;
 const LOUD: i16 = -700;
 
 // 0 to 15, in steps of 20 tenths.
+#[tactic(auto, using(crate::proofs::Levels::quality_held))]
 pub fn quality(level: i16) -> u8
     ensures { result ≡ quality level }
 {
-    if level < FAINT {
-        return 0;
-    }
-    if level > LOUD {
-        return 15;
-    }
-    (floor_twentieth(level) + 50) as u8
+    (floor_twentieth(level.clamp(FAINT, LOUD)) + 50) as u8
 }

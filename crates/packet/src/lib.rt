@@ -4,6 +4,7 @@
 // Apart from these, level.rt is the quality of a level, said in specs/Quality.antt.
 #![tactic(auto)]
 
+pub mod item;
 pub mod level;
 pub mod message;
 pub mod ptt;
@@ -13,4 +14,4 @@ pub mod rules;
 pub use level::quality;
 pub use message::{Direction, Items, Message, Rx, Side, Sqi, Tx};
 pub use refusal::{Refusal, cause, number};
-pub use rules::{AUDIO, R2S, audio_length, ptt_on, sqi_allowed};
+pub use rules::{AUDIO, R2S, RSSI, audio_length, ptt_on, sqi_allowed};

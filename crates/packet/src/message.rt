@@ -1,4 +1,6 @@
 // What a packet says: the messages of the two directions, and the items that they may carry.
+// kept: PTT types and methods by their codes, of any value: what no reader would take is refused with 27 (`Unwritable`).
+// kept: three messages with fields alike, since each has what its direction can say (`as_tx`, `as_rx`).
 ghost use Rattle.std.specs.Prelude.{◌≡◌};
 ghost use Rattle.packet.specs.Messages.{as_tx, as_rx, from_tx, from_rx};
 

@@ -41,7 +41,7 @@ pub fn number(r: Refusal) -> u8
     r as u8
 }
 
-// The cause that a switch is told, 0 unless 01 shows one.
+// The cause that a switch is told, 0 unless 01 shows one. (kept: 0, `cause_of`)
 pub fn cause(r: Refusal) -> u16
     ensures { result ≡ cause_of (number_of r) }
 {

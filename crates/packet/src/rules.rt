@@ -11,7 +11,7 @@ pub const AUDIO: u8 = 8;
 pub const R2S: u8 = 123;
 
 // The method RSSI.
-const RSSI: u8 = 0;
+pub const RSSI: u8 = 0;
 
 // The values that an SQI item may have.
 pub fn sqi_allowed(quality: u8, method: u8) -> bool

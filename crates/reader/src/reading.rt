@@ -1,4 +1,5 @@
 // The readers: refusals 1 to 12, and the message of an accepted packet.
+// kept: bits by `/` and `%`, as `bits` counts them; std has no bit fields.
 ghost use Rattle.std.specs.Prelude.{◌≡◌, min, length};
 ghost use Rattle.base.specs.Bytes.{LiesAt};
 ghost use Rattle.items.specs.ItemsIn.{items_read};
@@ -13,7 +14,7 @@ use base::{number16_at, number32_at, part};
 use items::items_in;
 use packet::{AUDIO, Direction, Items, Message, Refusal, Rx, Tx, audio_length, ptt};
 
-// Reads a packet from a voice switch.
+// Reads a packet from a voice switch. (kept: one for each direction, a line over `read`; `Tight` promises both)
 #[tactic(auto, unfolding(crate::specs::Reading::read_tx))]
 pub fn read_tx(ext: u16, p: &[u8]) -> Result<Tx, Refusal>
     ensures { answer_of result ≡ read_tx ext p.now }

@@ -3,6 +3,7 @@ ghost use Rattle.std.specs.Prelude.{◌≡◌, false};
 ghost use Rattle.record.specs.Record.{no_such_seat, opened_seat, entry_of, with_entry, seat_of};
 
 // The field of a packet with its items, as a seat remembers it. An item is there or not, and its value, 0 where it is not.
+// kept: flags beside their values, and codes, in this file: the record crosses to C and holds no enum (`zero_field` ..).
 #[repr(C)]
 #[derive(Clone, Copy, PartialEq, Eq)]
 pub struct Field {
@@ -52,6 +53,7 @@ pub struct Seat {
     pub totals: Totals,
 }
 
+// kept: constants and no `Default`, as 01 asks (docs/DECISIONS.md, "Required forms").
 impl Field {
     pub const ZERO: Field = Field {
         ptt: 0,
@@ -131,6 +133,7 @@ pub fn entry_of<T: Copy>(none: T, entries: &[T], n: u8) -> T
 }
 
 // Another entry for seat n; what is no seat's number leaves the array as it was.
+// kept: a test and an index, since after `get_mut` a proof knows no element.
 pub fn set_entry<T: Copy>(entries: &mut [T], n: u8, entry: T)
     ensures { entries.new ≡ with_entry entries.old n entry }
 {

@@ -9,7 +9,7 @@ use crate::seat::flag_of;
 pub struct Setup {
     pub lesson: [bool; 8],
     pub ext: u16,
-    // the kind of radio, by its code (kind_code)
+    // the kind of radio, by its code (kind_code); kept: the record holds no enum
     pub kind: u8,
     // equal-rank mode: summation, else lockout
     pub equal_summation: bool,

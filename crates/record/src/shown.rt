@@ -6,7 +6,7 @@ pub struct Air {
     pub on: [bool; 8],
     // on the air at the top rank
     pub leads: [bool; 8],
-    // the smallest seat that leads, 0 if none does
+    // the smallest seat that leads, 0 if none does; kept, as `ptt`: the record holds no enum
     pub id: u8,
     // the top type, 0 for off
     pub ptt: u8,

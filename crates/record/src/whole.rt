@@ -1,4 +1,5 @@
 // The bench: set-up, seats, and what the radio is doing.
+// kept: arrays by seat beside one another, and seats by number in `order`, which 01 asks for and C hosts read.
 ghost use Rattle.std.specs.Prelude.{◌≡◌};
 ghost use Rattle.record.specs.Record.{fresh_bench};
 

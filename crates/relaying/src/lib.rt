@@ -13,7 +13,7 @@ use record::{Answered, Bench};
 pub struct Relayed<'a> {
     pub bench: Bench,
     pub answer: Result<Hearing, Refusal>,
-    // A part of the lent packet: its payload if that is sent, else empty.
+    // A part of the lent packet: its payload if that is sent, else empty. (kept: no Option, as 01 asks; `Relays`)
     pub audio: &'a [u8],
 }
 

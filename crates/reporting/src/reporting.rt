@@ -4,7 +4,7 @@ ghost use Rattle.packet.specs.Refusals.{answer_of};
 ghost use Rattle.record.specs.Record.{settled};
 ghost use Rattle.reporting.specs.Reporting.{id_told, sqi_told, audio_barred, report_of, report_said, report_buffer, next_sequence, reported_bench};
 
-use packet::{Refusal, Rx, Sqi, audio_length, quality};
+use packet::{RSSI, Refusal, Rx, Sqi, audio_length, quality};
 use record::kind::{kind_of, side_told};
 use record::{Air, Answered, Bench, entry_of, is_open, seat_of, set_entry};
 use seats::opening::{own_id, seat_verdict};
@@ -79,13 +79,13 @@ fn id_told(air: Air, n: u8, call: u8) -> u8
     }
 }
 
-// Method RSSI, whose code is 0, exactly while a signal is received.
+// With the method RSSI, exactly while a signal is received.
 fn sqi_told(signals: u8, level: i16) -> Option<Sqi>
     ensures { result ≡ sqi_told signals level }
 {
     (1 <= signals).then(|| Sqi {
         quality: quality(level),
-        method: 0,
+        method: RSSI,
     })
 }
 

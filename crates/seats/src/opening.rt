@@ -22,7 +22,7 @@ pub enum CallType {
 // The codes that a seat keeps of the call types that may key.
 pub const TX_RX: u8 = CallType::TxRx as u8;
 
-pub const COUPLING: u8 = CallType::Coupling as u8;
+const COUPLING: u8 = CallType::Coupling as u8;
 
 // R2S period 20 to 1000 ms, multiplier 2 to 50.
 const SHORTEST: u16 = 20;
@@ -150,7 +150,7 @@ pub fn may_key(call: u8) -> bool
     matches!(call, TX_RX | COUPLING)
 }
 
-// The ptt-id of a seat: its number for TxRx and Coupling, else 0.
+// The ptt-id of a seat: its number for TxRx and Coupling, else 0. (kept: 0, as 01 answers it, `open_said`)
 pub fn own_id(n: u8, call: u8) -> u8
     ensures { result ≡ own_id n call }
 {

@@ -123,6 +123,7 @@ fn put_report(shown: Bench, timestamp: u32, n: u8, out: &mut [u8]) -> usize
 }
 
 // The bench after a report to each of these seats.
+// kept: by its place, since of `iter_mut` under `zip` a proof knows no element.
 #[tactic(auto, using(crate::proofs::SendingLaws::further_laws), unfolding(crate::specs::Sending::one_further))]
 fn reported_to(reported: [bool; 8], mut b: Bench) -> Bench
     ensures { result ≡ reported_to reported b }

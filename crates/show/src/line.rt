@@ -7,6 +7,7 @@ use crate::pieces::{named, put_climax, put_head, put_side, put_sqi};
 use packet::{Refusal, Rx, Tx, cause, number};
 use text::Line;
 
+// kept: a line for each direction, whose fields differ (`tx_line`, `rx_line` of Lines.antt).
 pub fn tx_line(line: &mut Line, m: Tx, audio: usize)
     ensures { Puts line.old line.new (tx_line m audio) }
 {

@@ -7,19 +7,17 @@ ghost use Rattle.writer.specs.Pieces.{padded};
 ghost use Rattle.writer.specs.Writing.{rising_items, item_bytes, side_listed, fewest_words, field_of, words_of, kind_for, head_of, encode};
 
 use base::copy_in;
-use packet::{AUDIO, Items, Message, R2S, Side, Sqi};
+use packet::{AUDIO, Items, Message, R2S, Side, Sqi, item};
 
 // The first byte of the packet: version 2, padding 0, extension 1, CC 0.
 const FIRST: u8 = 144;
 
-// The first byte of an SQI item: type 1, length 1.
-const SQI: u8 = 17;
+// The first byte of an item: its type in the high half, length 1 in the low half.
+const SQI: u8 = item::SQI * 16 + 1;
 
-// The first byte of a CLIMAX item: type 2, length 1.
-const CLIMAX: u8 = 33;
+const CLIMAX: u8 = item::CLIMAX * 16 + 1;
 
-// The first byte of a main/standby item: type 5, length 1.
-const SIDE: u8 = 81;
+const SIDE: u8 = item::SIDE * 16 + 1;
 
 // The packet, over the front of the buffer.
 #[tactic(auto, using(crate::proofs::WrittenLaws::heads_and_content, base::proofs::Buffers::overlaid_then))]
@@ -89,6 +87,7 @@ fn words(m: Message) -> [u8; 8]
 }
 
 // The first two bytes of the words, as one number.
+// kept: products and sums, since a value that does not fit its bits runs over into those in front (`field_of`).
 fn field(m: Message) -> u32
     ensures { result ≡ field_of m (rising_items m.items) }
 {

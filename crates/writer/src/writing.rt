@@ -7,7 +7,7 @@ ghost use Rattle.writer.specs.Writing.{writable, write, buffered, put, after_put
 use crate::plain::{fewest_words, put_packet};
 use packet::{Message, Refusal, Rx, Tx, audio_length, ptt, sqi_allowed};
 
-// Writes a packet from a voice switch, and answers its length.
+// Writes a packet from a voice switch, and answers its length. (kept: one for each direction; `Tight` promises both)
 pub fn write_tx(ext: u16, m: Tx, audio: &[u8], out: &mut [u8]) -> Result<usize, Refusal>
     ensures result_value { answer_of result ≡ write ext (from_tx m) audio.now (length out.old) }
     ensures out_after { out.new ≡ buffered ext (from_tx m) audio.now out.old }
