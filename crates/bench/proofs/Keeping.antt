@@ -2,8 +2,8 @@
 use Prim.Native.Nat.{ℕ}
 use mathlib.Core.Path.{◌≡◌, refl, ap, ◌∙◌}
 use mathlib.Core.List.{List, [], ◌∷◌}
+use native.Mathlib.Omega.{arith}
 use Rattle.packet.specs.Refusals.{Answer, accepted, refused, mapped}
-use Rattle.packet.proofs.Judged.{never}
 use Rattle.record.specs.Record.{with_side, with_air}
 use Rattle.seats.specs.Opening.{open_said, opened_bench, close_said, closed_bench}
 use Rattle.seats.specs.Ticking.{silent_seats, due_seats, ticked_bench}
@@ -27,20 +27,11 @@ report_reads b n timestamp sound room = refl
 
 -- a refused call leaves it whole
 pub was_refused : {A : Type 0} (answer : Answer A) (tell : A → Said) (n cause : ℕ) → mapped tell answer ≡ refused n cause → answer ≡ refused n cause
-was_refused (accepted a) tell n cause e = absurd (never (tell a) n cause e)
-was_refused (refused m c) tell n cause e = cc
+was_refused answer tell n cause e = grind arith
 
 pub refused_keeps : (b : Bench) (c : Call) (k cause : ℕ) → (keeping b c).answer ≡ refused k cause → (keeping b c).bench ≡ b
 unfolding does
-refused_keeps b (opening n r) k cause e = simp (was_refused (open_said b n r) own k cause e)
-refused_keeps b (closing n) k cause e = simp (was_refused (close_said b n) (λ u. done) k cause e)
-refused_keeps b (packet n p) k cause e = simp (was_refused (packet_said b n p) (told p) k cause e)
-refused_keeps b (tick ms timestamp room) k cause e = simp (was_refused (tick_said b ms timestamp room) _ k cause e)
-refused_keeps b (report n timestamp sound room) k cause e = simp (was_refused (report_said b n timestamp sound room) _ k cause e)
-refused_keeps b (received signals level) k cause e = absurd (never done k cause e)
-refused_keeps b (transmitter healthy) k cause e = absurd (never done k cause e)
-refused_keeps b (side standby) k cause e = simp (was_refused (side_said b) (λ u. done) k cause e)
-refused_keeps b (totals n) k cause e = simp (was_refused (totals_said b n) counts k cause e)
+refused_keeps b c k cause e = grind arith
 
 -- ---- the same answers
 
@@ -53,8 +44,7 @@ module _ (shown kept f : Bench → Bench) (b : Bench) (air : Air) (sees : shown 
     (reports : (n : ℕ) → with_air (reported_bench b n) air ≡ f (reported_bench b n)) (keeps : (next : Bench) → kept (with_air next air) ≡ f next) where
   settles : {A : Type 0} (answer : Answer A) (tell : A → Said) (next : Bench) {left : Bench} → left ≡ f next
       → outcome answer tell (with_air b air) left ≡ changed f (outcome answer tell b next)
-  settles (accepted a) tell next e = ap (λ (x : Bench). record { answer = accepted (tell a); bench = x }) e
-  settles (refused n cause) tell next e = ap (λ (x : Bench). record { answer = refused n cause; bench = x }) stands
+  settles answer tell next e = grind arith
 
   but_for_air : (c : Call) → does shown kept (with_air b air) c ≡ changed f (step b c)
   unfolding does bench_air keyings

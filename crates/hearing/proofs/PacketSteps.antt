@@ -1,20 +1,19 @@
 -- The packet's call in steps: 13 and 14, then the reader's 1 to 12, then 19 to 23 and 33 of the message.
 use Prim.Native.Nat.{ℕ}
 use mathlib.Core.Path.{◌≡◌, refl, ap, sym, ◌∙◌}
-use mathlib.Core.Bool.{Bool, false, not}
+use mathlib.Core.Bool.{false, not}
 use mathlib.Core.List.{List, [], ◌++◌}
 use Rattle.packet.specs.Refusals.{Case, NoCase, Answer, accepted, refused, judged, mapped}
 use Rattle.packet.specs.Messages.{as_tx}
 use Rattle.packet.specs.declared.message.Direction.TheVariants as direction
 use Rattle.packet.specs.declared.message.Tx.{Tx}
 use Rattle.packet.proofs.Judged.{and_then, judged_both, judged_mapped, meets_none, judged_split}
-use Rattle.record.specs.Record.{entry_of, seat_of}
+use Rattle.record.specs.Record.{seat_of}
 use Rattle.record.specs.declared.setup.Setup.{Setup}
 use Rattle.record.specs.declared.seat.Seat.{Seat}
 use Rattle.record.specs.declared.whole.Bench.{Bench}
 use Rattle.reader.specs.Reading.{reader_refusals, message_of, read, read_tx}
 use Rattle.seats.specs.Opening.{seat_refusals, seat_verdict}
-use Rattle.air.specs.Air.{aired}
 use Rattle.hearing.specs.Account.{missing_before, totals_after, total_too_large}
 use Rattle.hearing.specs.Hearing.{field_heard, message_in, message_refusals, packet_refusals, packet_said, heard_bench, same_field, is_sent, hearing}
 use Rattle.hearing.specs.Pieces.{message_verdict, admitted}
@@ -54,9 +53,24 @@ module _ (setup : Setup) (n : ℕ) (s : Seat) (p : List ℕ) where
 
 -- ---- the whole call
 
-pub said_of_admitted : (b : Bench) (n : ℕ) (p : List ℕ) → packet_said b n p ≡ mapped (λ (m : Tx). hearing b n p) (admitted b.setup n (seat_of b.seats n) p)
-unfolding packet_said admitted
-said_of_admitted b n p = sym (judged_mapped (λ (m : Tx). hearing b n p) (packet_refusals b.setup n (seat_of b.seats n) p) (message_in p))
+-- what a message that was admitted is answered
+abbrev pub answered : Bench → (n : ℕ) → Tx → Hearing
+answered b n m =
+    record {
+      missing = missing_before (seat_of b.seats n).heard m;
+      reply = not (same_field (seat_of b.seats n).heard.field (field_heard m));
+      standby = (heard_bench b n m).standby;
+      sent = is_sent b n m;
+    }
+
+pub said_of_admitted : (b : Bench) (n : ℕ) (p : List ℕ) → packet_said b n p ≡ mapped (answered b n) (admitted b.setup n (seat_of b.seats n) p)
+unfolding packet_said hearing admitted
+said_of_admitted b n p = sym (judged_mapped (answered b n) (packet_refusals b.setup n (seat_of b.seats n) p) (message_in p))
+
+-- what was admitted is the packet's message
+pub admitted_message : (setup : Setup) (n : ℕ) (s : Seat) (p : List ℕ) → admitted setup n s p ≡ mapped (λ (m : Tx). message_in p) (admitted setup n s p)
+unfolding admitted
+admitted_message setup n s p = sym (judged_mapped (λ (m : Tx). message_in p) (packet_refusals setup n s p) (message_in p))
 
 -- a message that was admitted passed every test
 module _ (b : Bench) (n : ℕ) (p : List ℕ) (m : Tx) (e : accepted m ≡ admitted b.setup n (seat_of b.seats n) p) where
@@ -67,16 +81,8 @@ module _ (b : Bench) (n : ℕ) (p : List ℕ) (m : Tx) (e : accepted m ≡ admit
   taken : PacketAccepted b.setup n (seat_of b.seats n) p
   taken = packet_accepted b.setup n (seat_of b.seats n) p met.0
 
-  pub says : message_in p ≡ m
+  says : message_in p ≡ m
   says = met.1
 
   pub total_passed : total_too_large (totals_after (seat_of b.seats n) m) ≡ false
   total_passed = rw (sym says) taken.total_fits
-
--- what the call answers, from what the functions that it calls answered
-pub hearing_told : (b : Bench) (n : ℕ) (p : List ℕ) {m : Tx} {after : Bench} {sent differs : Bool} {lost : ℕ}
-    → message_in p ≡ m → after ≡ aired (heard_bench b n m) → differs ≡ not (same_field (seat_of b.seats n).heard.field (field_heard m))
-    → lost ≡ missing_before (seat_of b.seats n).heard m → sent ≡ entry_of false after.air.on n
-    → ◌≡◌ {A = Hearing} (record { missing = lost; reply = differs; standby = after.standby; sent = sent }) (hearing b n p)
-unfolding hearing is_sent
-hearing_told b n p is left compared count air = simp (air, count, compared, left, ← is)

@@ -28,7 +28,7 @@ pub struct Hearing {
 }
 
 // A packet for seat n: what it answers, and the bench after it. Refused by 13, 14, 1 to 12, 19 to 23, 33, in this order.
-#[tactic(auto, using(crate::proofs::PacketSteps::said_of_admitted))]
+#[tactic(auto, using(crate::proofs::PacketSteps::said_of_admitted, crate::proofs::PacketSteps::admitted_message, crate::proofs::PacketSteps::total_passed))]
 pub fn packet(b: Bench, n: u8, p: &[u8]) -> Answered<Hearing>
     ensures answer { answer_of result.answer ≡ packet_said b n p.now }
     ensures bench { result.bench ≡ settled (packet_said b n p.now) b (aired (heard_bench b n (message_in p.now))) }
@@ -36,7 +36,7 @@ pub fn packet(b: Bench, n: u8, p: &[u8]) -> Answered<Hearing>
     let s = seat_of(b.seats, n);
     match admitted(b.setup, n, s, p) {
         Ok(m) => {
-            let moved = heard_bench(b, n, s, m);
+            let moved = heard_bench(b, n, m);
             let after = aired(moved);
             Answered {
                 bench: after,
