@@ -10,7 +10,7 @@ use Rattle.base.proofs.Truths.{or_true}
 use Rattle.record.specs.Record.{seat_numbers, no_such_seat, seat_of, lesson, fresh_bench}
 use Rattle.record.proofs.Seats.{in_range_seat, each_seat, open_is_seat}
 use Rattle.air.specs.Air.{rank, takes_part}
-use Rattle.air.specs.InWords.{EachPlaced, Shows}
+use Rattle.air.specs.InWords.{EachPlaced, Shows, TakesPart}
 use Rattle.air.proofs.Members.{among_placed}
 use Rattle.air.proofs.InWords.{part_is, is_part, shows}
 use Rattle.bench.specs.Step.{Call, keeping, after}
@@ -42,7 +42,9 @@ module _ (b : Bench) where
   is_above n = not (lesson b.setup n) && takes_part b.healthy (seat_of b.seats n) && ltb 1 (rank (ptt_of b n))
 
   above_to : (n : ℕ) → is_above n ≡ true → LiveAbove b
-  above_to n e = grind (arith, part_is)
+  above_to n e =
+      let p : TakesPart b n = grind (arith, part_is) in
+      record { seat = n; live = grind arith; part = p; above_test = grind (arith, above_if (ptt_of b n) p.not_off p.known) }
 
   above_from : (a : LiveAbove b) → is_above a.seat ≡ true
   above_from a = simp (a.live, is_part b a.seat a.part, (above_if (ptt_of b a.seat) a.part.not_off a.part.known).1 a.above_test)
