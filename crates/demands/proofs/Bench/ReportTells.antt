@@ -82,9 +82,6 @@ is_report b right shown kept ext-fits n timestamp sound room bytes time-fits non
     number_fits true q = rw (entry_none b.sequences n 0 q) (omega arith)
     number_fits false q = rw (entry_there b.sequences n 0 q) (kept.sequences_fit (n - 1))
 
-same_setup : (setup : Setup) (cs : List Call) → (after keeping (fresh_bench setup) cs).setup ≡ setup
-same_setup setup cs = after_run (λ (x : Bench). x.setup ≡ setup) (λ x c e. setup_kept x c ∙ e) (fresh_bench setup) cs (unfold fresh_bench in refl)
-
 -- what is known of a bench that calls lead to, where numbers fit
 record Reached (b : Bench) : Type 0 where
   right : AirRight b

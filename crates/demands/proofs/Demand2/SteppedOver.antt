@@ -71,15 +71,6 @@ others_kept (i ∷ is) = by_type (eqb i.type 4) refl (others_kept is)
         let s : side_among (others is) ≡ side_among is = ap (λ (k : Items). k.side) h in
         simp (q, c, s)
 
-others_none : (is : List Item) → has_type ddc_type (others is) ≡ false
-unfolding others has_type
-others_none [] = refl
-others_none (i ∷ is) = by_type (eqb i.type 4) refl (others_none is)
-  where
-    by_type : (t : Bool) → eqb i.type 4 ≡ t → has_type 4 (others is) ≡ false → has_type 4 (cond t (others is) (i ∷ others is)) ≡ false
-    by_type true e h = h
-    by_type false e h = simp (e, h)
-
 -- nor one more made of them
 none_more : (t : ℕ) (is : List Item) → has_type t is ≡ false → has_type t (others is) ≡ false
 unfolding others has_type
