@@ -18,7 +18,7 @@ pub fn byte_at(s: &[u8], i: usize) -> u8
 }
 
 // The number of two bytes, most significant first.
-// kept, with `join16`, `least` and `bit`: nothing here calls them, but `Tight` promises each.
+// kept, with `join16`, `least` and `bit`: no crate calls them, but `Tight` and `AsksNothing` have a line for each.
 pub fn join8(high: u8, low: u8) -> u16
     ensures { result ≡ high * 256 + low }
 {

@@ -1,5 +1,6 @@
 // Order of packets, over plain numbers: was a packet heard before, the last sequence accepted, the new one.
-// kept: the flag `heard` beside a number is not an Option, since the record, which C hosts share, holds the two (`Heard.any`).
+// kept: the flag `heard` beside a number is not an Option, since the record, which C hosts share, holds the two
+// (`Heard.any`), and `other_ssrc`, `late` and `missing` take them.
 ghost use Rattle.std.specs.Prelude.{◌≡◌};
 ghost use Rattle.base.specs.Order.{other_ssrc, distance, late, size, missing};
 

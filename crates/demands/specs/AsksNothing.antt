@@ -166,7 +166,7 @@ pub record AsksNothingGrammar : Type 2 where
   pub named : NothingAsked grammar.named.Reads.requires
   pub parsed : NothingAsked grammar.parsed.Reads.requires
 
--- All 92.
+-- All 94.
 pub record AsksNothing : Type 2 where
   pub base : AsksNothingBase
   pub packet : AsksNothingPacket

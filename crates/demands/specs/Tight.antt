@@ -193,7 +193,7 @@ pub record TightGrammar : Type 1 where
   pub named : OneResult grammar.named.Reads.Learnt
   pub parsed : OneResultAndBuffer grammar.parsed.Reads.Learnt (λ k e. e.1.0)
 
--- All 92.
+-- All 94.
 pub record Tight : Type 2 where
   pub base : TightBase
   pub packet : TightPacket

@@ -97,7 +97,7 @@ pub enum Call {
     Wrong,
 }
 
-// A set-up. Lesson seats are bits, seat 1 the lowest (kept: `seats_in` says them so).
+// A set-up. Lesson seats are bits, seat 1 the lowest (kept: the definitions `seats_in` and `lessons_of` have bits).
 #[derive(Clone, Copy)]
 pub struct SetupSaid {
     pub lessons: u8,

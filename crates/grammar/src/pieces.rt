@@ -8,7 +8,7 @@ use packet::Direction;
 use words::{choice, dash, half};
 
 // One of several words, each with its value in the same order.
-// kept: the words are one string, as `one_of` and `named_in` have them, these in the order of `help`.
+// kept: the words are one string, as `choice` takes them (`Tight`); those of `named_in` in the order of `help`.
 #[tactic(auto, unfolding(crate::specs::Said::one_of))]
 pub(crate) fn one_of<T: Copy>(w: &[u8], words: &[u8], values: &[T]) -> Option<T>
     ensures { result ≡ one_of w.now words.now values.now }

@@ -67,7 +67,7 @@ pub(crate) fn missing_before(last: Heard, m: Tx) -> u16
     missing(last.any, last.sequence, m.sequence)
 }
 
-// What the seat keeps of a message. (kept: no `From`, since both types are of other crates)
+// What the seat keeps of a message. (kept: no `From`: `field_heard` is defined here, above `Field`)
 #[tactic(auto, unfolding(crate::specs::Hearing::field_heard))]
 pub(crate) fn field_heard(m: Tx) -> Field
     ensures { result ≡ field_heard m }

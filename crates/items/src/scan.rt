@@ -8,7 +8,7 @@ ghost use Rattle.items.specs.ItemsIn.{items_read};
 use packet::{Direction, Items, Side, Sqi, item, sqi_allowed};
 
 // Where the scan stands.
-// kept: a step for each byte (`step_of`), by which proofs/Meaning.antt finds the list of items.
+// kept: a step for each byte, since an item of type 4 has any length (02, request 1), so there are no pairs to iterate.
 #[derive(Clone, Copy)]
 pub enum Mode {
     // in the zeros at the end

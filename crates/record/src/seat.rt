@@ -53,7 +53,7 @@ pub struct Seat {
     pub totals: Totals,
 }
 
-// kept: constants and no `Default`, as 01 asks (docs/DECISIONS.md, "Required forms").
+// kept: 01 asks for constants (docs/DECISIONS.md, "Required forms"), and a const can call no `Default`.
 impl Field {
     pub const ZERO: Field = Field {
         ptt: 0,
@@ -133,7 +133,7 @@ pub fn entry_of<T: Copy>(none: T, entries: &[T], n: u8) -> T
 }
 
 // Another entry for seat n; what is no seat's number leaves the array as it was.
-// kept: a test and an index, since after `get_mut` a proof knows no element.
+// kept: a test and an index; tried with `get_mut`, which promises nothing of the slice behind it.
 pub fn set_entry<T: Copy>(entries: &mut [T], n: u8, entry: T)
     ensures { entries.new ≡ with_entry entries.old n entry }
 {

@@ -1,5 +1,5 @@
 // The bench: set-up, seats, and what the radio is doing.
-// kept: arrays by seat beside one another, and seats by number in `order`, which 01 asks for and C hosts read.
+// kept: `seats` and `order` as 01 asks; the other arrays by seat, since the record crosses to C as it is.
 ghost use Rattle.std.specs.Prelude.{◌≡◌};
 ghost use Rattle.record.specs.Record.{fresh_bench};
 
@@ -27,6 +27,7 @@ pub struct Bench {
 }
 
 // The bench after a call, and what the call answers. As it was where the call is refused.
+// kept: written out at four refusals, a line each beside the accepted answer; a constructor would be no shorter.
 #[derive(Clone, Copy)]
 pub struct Answered<T> {
     pub bench: Bench,

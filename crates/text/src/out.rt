@@ -1,6 +1,6 @@
 // Text out: a line grows in a lent buffer. What does not fit is dropped, so that a caller has nothing to test between
 // two texts.
-// kept: by hand; `write!` says what is written after an `Ok` alone, and no clause promises an `Ok`.
+// kept: by hand; tried with `write!`, whose clause (`write_fmt`) says what is written after an `Ok` alone.
 ghost use Rattle.std.specs.Prelude.{◌≡◌, [], ◌∷◌, ◌<◌};
 ghost use Rattle.base.specs.Bytes.{part_of};
 ghost use Rattle.text.specs.Text.{decimal, bit_text, hex_digit, hex_byte, hex, bytes_text};
