@@ -1,6 +1,7 @@
 // What a packet of document 01 is: the messages of both directions, every refusal with its number and cause, the rules that
 // readers and writers share, and the quality of a level.
 // Start at specs/Packet.antt, Items.antt and Refusals.antt, which say it in 01's order; the crates `reader` and `writer` do it.
+// Messages.antt has what a message of one direction is as one of either. item.rt and ptt.rt name the types of items and of PTT.
 // Apart from these, level.rt is the quality of a level, said in specs/Quality.antt.
 #![tactic(auto)]
 
