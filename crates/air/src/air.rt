@@ -157,19 +157,17 @@ fn ptts_shown(seats: &[Seat; 8], on: &[bool; 8]) -> bool
 }
 
 // The bench with its air made right. Every accepted call but a report leaves its bench so; reports read it.
-pub fn aired(b: Bench) -> Bench
+pub fn aired(mut b: Bench) -> Bench
     ensures { result ≡ aired b }
 {
-    Bench {
-        air: bench_air(b),
-        ..b
-    }
+    b.air = bench_air(&b);
+    b
 }
 
 // What is shown of the air of a bench.
 #[tactic(auto, using(crate::proofs::AirFound::air_found))]
-fn bench_air(b: Bench) -> Air
-    ensures { result ≡ bench_air b }
+fn bench_air(b: &Bench) -> Air
+    ensures { result ≡ bench_air b.now }
 {
     let ranks = ranks(b.healthy, &b.seats, b.order);
     let top = highest(&ranks);

@@ -18,7 +18,6 @@ pub fn byte_at(s: &[u8], i: usize) -> u8
 }
 
 // The number of two bytes, most significant first.
-// kept, with `join16`, `least` and `bit`: no crate calls them, but `Tight` and `AsksNothing` have a line for each.
 pub fn join8(high: u8, low: u8) -> u16
     ensures { result ≡ high * 256 + low }
 {
@@ -37,7 +36,7 @@ pub fn number16_at(s: &[u8], i: u32) -> u16
     ensures { result ≡ number16 s.now i }
 {
     let at = i as usize;
-    u16::from_be_bytes([byte_at(s, at), byte_at(s, at + 1)])
+    join8(byte_at(s, at), byte_at(s, at + 1))
 }
 
 // The number of four bytes at a place; bytes past the end count as 0.
@@ -45,12 +44,10 @@ pub fn number32_at(s: &[u8], i: u32) -> u32
     ensures { result ≡ number32 s.now i }
 {
     let at = i as usize;
-    u32::from_be_bytes([
-        byte_at(s, at),
-        byte_at(s, at + 1),
-        byte_at(s, at + 2),
-        byte_at(s, at + 3),
-    ])
+    join16(
+        join8(byte_at(s, at), byte_at(s, at + 1)),
+        join8(byte_at(s, at + 2), byte_at(s, at + 3)),
+    )
 }
 
 // The smaller of two numbers.
@@ -72,8 +69,8 @@ pub fn part(s: &[u8], from: usize, to: usize) -> &[u8]
     ensures holds { result.now ≡ part_of from to s.now }
     ensures lies { LiesAt s.entry (min from (min to (length s.now))) result }
 {
-    let end = to.min(s.len());
-    &s[from.min(end)..end]
+    let end = least(to, s.len());
+    &s[least(from, end)..end]
 }
 
 // Lays bytes over the front of a buffer, as many as there is room for, and answers how many.
@@ -82,7 +79,7 @@ pub fn copy_in(out: &mut [u8], from: &[u8]) -> usize
     ensures value { result ≡ min (length from.now) (length out.old) }
     ensures out_after { out.new ≡ overlaid from.now out.old }
 {
-    let n = from.len().min(out.len());
+    let n = least(from.len(), out.len());
     out[..n].copy_from_slice(&from[..n]);
     n
 }

@@ -1,7 +1,7 @@
 // Lines, however the input comes in pieces.
 use crate::answer::answer;
 use crate::usage::too_long;
-use base::part;
+use base::{copy_in, part};
 use bench::Bench;
 use grammar::parsed;
 use std::io;
@@ -30,21 +30,21 @@ impl Session {
 
     // Answers each line that ends in the piece, and keeps the beginning of the next.
     pub(crate) fn take(&mut self, rt: &impl Print, piece: &[u8]) -> io::Result<()> {
-        for b in piece {
-            if *b == b'\n' {
+        for (i, part) in piece.split(|b| *b == b'\n').enumerate() {
+            if i > 0 {
                 self.answer(rt)?;
-            } else {
-                self.keep(*b);
             }
+            self.keep(part);
         }
         Ok(())
     }
 
-    fn keep(&mut self, b: u8) {
+    // Keeps a part of a line behind what has come, where there is room for it.
+    fn keep(&mut self, part: &[u8]) {
         self.length = match self.length {
-            Some(n) if n < LINE => {
-                self.line[n] = b;
-                Some(n + 1)
+            Some(n) if n <= LINE && part.len() <= LINE - n => {
+                copy_in(&mut self.line[n..], part);
+                Some(n + part.len())
             }
             _ => None,
         };

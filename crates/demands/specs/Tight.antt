@@ -37,9 +37,10 @@ abbrev pub OneResultAndBuffer : {K : Type 0} {A R E : K → Type 0} → (promise
 OneResultAndBuffer {K} {A} {R} {E} promise lent =
     (k : K) (a : A k) (r s : R k) (d e : E k) → promise k a r d → promise k a s e → (r ≡ s) × ((lent k d).now ≡ (lent k e).now)
 
--- The same where a line is lent: any two places that it is left at, and any two contents of its buffer, which it stays in.
+-- The same where a line is lent: any two places that it is left at, and any two contents of its buffer, which it stays in and
+-- which stays where it is.
 abbrev pub SameLine : Line → Line → Type 0
-SameLine l m = (l.at ≡ m.at) × (l.out.now ≡ m.out.now) × (l.out.ghost_name ≡ m.out.ghost_name)
+SameLine l m = (l.at ≡ m.at) × (l.out.now ≡ m.out.now) × (l.out.ghost_name ≡ m.out.ghost_name) × (l.out.ref_ptr ≡ m.out.ref_ptr)
 
 abbrev pub OneLine : {K : Type 0} {A R E : K → Type 0} → (promise : (k : K) → A k → R k → E k → Type 0)
     → (lent : (k : K) → E k → MutBor Line) → Type 0

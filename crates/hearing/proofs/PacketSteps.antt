@@ -1,14 +1,14 @@
 -- The packet's call in steps: 13 and 14, then the reader's 1 to 12, then 19 to 23 and 33 of the message.
 use Prim.Native.Nat.{ℕ}
 use mathlib.Core.Path.{◌≡◌, refl, ap, sym, ◌∙◌}
-use mathlib.Core.Bool.{false, not}
+use mathlib.Core.Bool.{true, false, not}
 use mathlib.Core.List.{List, [], ◌++◌}
 use Rattle.packet.specs.Refusals.{Case, NoCase, Answer, accepted, refused, judged, mapped}
 use Rattle.packet.specs.Messages.{as_tx}
 use Rattle.packet.specs.declared.message.Direction.TheVariants as direction
 use Rattle.packet.specs.declared.message.Tx.{Tx}
 use Rattle.packet.proofs.Judged.{and_then, judged_both, judged_mapped, meets_none, judged_split}
-use Rattle.record.specs.Record.{seat_of}
+use Rattle.record.specs.Record.{no_such_seat, seat_of}
 use Rattle.record.specs.declared.setup.Setup.{Setup}
 use Rattle.record.specs.declared.seat.Seat.{Seat}
 use Rattle.record.specs.declared.whole.Bench.{Bench}
@@ -52,6 +52,11 @@ module _ (setup : Setup) (n : ℕ) (s : Seat) (p : List ℕ) where
       ∙ sym (after_reading (λ (x : Answer Tx). read_then x (unbarred setup n s))))
 
 -- ---- the whole call
+
+-- 13 is the first case
+pub no_seat : (b : Bench) (n : ℕ) (p : List ℕ) → no_such_seat n ≡ true → packet_said b n p ≡ refused 13 0
+unfolding packet_said packet_refusals seat_refusals
+no_seat b n p e = simp e
 
 -- what a message that was admitted is answered
 abbrev pub answered : Bench → (n : ℕ) → Tx → Hearing

@@ -2,7 +2,7 @@
 ghost use Rattle.std.specs.Prelude.{◌≡◌, false};
 ghost use Rattle.base.specs.Bytes.{LiesAt};
 ghost use Rattle.packet.specs.Refusals.{answer_of};
-ghost use Rattle.record.specs.Record.{entry_of, settled};
+ghost use Rattle.record.specs.Record.{seat_of, settled};
 ghost use Rattle.air.specs.Air.{aired};
 ghost use Rattle.hearing.specs.Hearing.{message_in, heard_bench, packet_said, audio_in, audio_at};
 ghost use Rattle.hearing.specs.Pieces.{admitted};
@@ -13,7 +13,7 @@ use air::aired;
 use base::part;
 use packet::{Refusal, Tx};
 use reader::{payload, read_tx};
-use record::{Answered, Bench, Seat, Setup, flag_of, seat_of};
+use record::{Answered, Bench, Seat, Setup, entry_of, flag_of, no_such_seat};
 use seats::opening::seat_verdict;
 
 // What an accepted packet answers: packets missing before it, whether to reply now, the side in use after it, and whether its
@@ -28,15 +28,22 @@ pub struct Hearing {
 }
 
 // A packet for seat n: what it answers, and the bench after it. Refused by 13, 14, 1 to 12, 19 to 23, 33, in this order.
-#[tactic(auto, using(crate::proofs::PacketSteps::said_of_admitted, crate::proofs::PacketSteps::admitted_message, crate::proofs::PacketSteps::total_passed))]
+#[tactic(auto, using(crate::proofs::PacketSteps::said_of_admitted, crate::proofs::PacketSteps::admitted_message, crate::proofs::PacketSteps::total_passed, crate::proofs::PacketSteps::no_seat))]
 pub fn packet(b: Bench, n: u8, p: &[u8]) -> Answered<Hearing>
     ensures answer { answer_of result.answer ≡ packet_said b n p.now }
     ensures bench { result.bench ≡ settled (packet_said b n p.now) b (aired (heard_bench b n (message_in p.now))) }
 {
-    let s = seat_of(b.seats, n);
+    // 13, before a seat is taken out of the bench
+    if no_such_seat(n) {
+        return Answered {
+            bench: b,
+            answer: Err(Refusal::NoSuchSeat),
+        };
+    }
+    let s = its_seat(&b.seats, n);
     match admitted(b.setup, n, s, p) {
         Ok(m) => {
-            let moved = heard_bench(b, n, m);
+            let moved = heard_bench(b, n, s, m);
             let after = aired(moved);
             Answered {
                 bench: after,
@@ -53,6 +60,14 @@ pub fn packet(b: Bench, n: u8, p: &[u8]) -> Answered<Hearing>
             answer: Err(refusal),
         },
     }
+}
+
+// Seat n, lent the eight: a copy of them all would be the dearest step of a packet.
+#[tactic(auto, unfolding(record::specs::Record::seat_of))]
+fn its_seat(seats: &[Seat; 8], n: u8) -> Seat
+    ensures { result ≡ seat_of seats.now n }
+{
+    entry_of(Seat::CLOSED, seats, n)
 }
 
 // The audio to send, as a part of the lent packet: its payload where the answer says that it is sent, else an empty part.

@@ -8,25 +8,20 @@ use air::order::order_after;
 use base::missing;
 use packet::{Side, Tx};
 use record::kind::{items_move_side, kind_of};
-use record::{Bench, Field, Heard, Kind, Seat, Totals, seat_of, set_entry};
+use record::{Bench, Field, Heard, Kind, Seat, Totals, set_entry};
 
-// The bench after an accepted message.
+// The bench after an accepted message, s being the seat before it.
 #[tactic(auto, unfolding(crate::specs::Hearing::heard_bench))]
-pub(crate) fn heard_bench(b: Bench, n: u8, m: Tx) -> Bench
-    requires { total_too_large (totals_after (seat_of b.seats n) m) ≡ false }
+pub(crate) fn heard_bench(mut b: Bench, n: u8, s: Seat, m: Tx) -> Bench
+    requires { (s ≡ seat_of b.seats n) × (total_too_large (totals_after s m) ≡ false) }
     ensures { result ≡ heard_bench b n m }
 {
-    let s = seat_of(b.seats, n);
     let old = s.heard.field;
     let new = field_heard(m);
-    let mut seats = b.seats;
-    set_entry(&mut seats, n, heard_seat(s, m));
-    Bench {
-        seats,
-        order: order_after(n, old, new, b.order),
-        standby: side_after(kind_of(b.setup.kind), old, new, b.standby),
-        ..b
-    }
+    set_entry(&mut b.seats, n, heard_seat(s, m));
+    b.order = order_after(n, old, new, b.order);
+    b.standby = side_after(kind_of(b.setup.kind), old, new, b.standby);
+    b
 }
 
 // The seat after an accepted message: its time left begins anew.

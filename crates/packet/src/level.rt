@@ -15,9 +15,13 @@ const FAINT: i16 = -1000;
 const LOUD: i16 = -700;
 
 // 0 to 15, in steps of 20 tenths.
-#[tactic(auto, using(crate::proofs::Levels::quality_held))]
+#[tactic(auto, using(crate::proofs::Levels::quality_held), unfolding(crate::specs::Quality::quality))]
 pub fn quality(level: i16) -> u8
     ensures { result ≡ quality level }
 {
-    (floor_twentieth(level.clamp(FAINT, LOUD)) + 50) as u8
+    match level {
+        ..FAINT => 0,
+        FAINT..=LOUD => (floor_twentieth(level) + 50) as u8,
+        _ => 15,
+    }
 }

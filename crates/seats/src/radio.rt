@@ -14,18 +14,19 @@ use record::{Answered, Bench};
 pub fn received(b: Bench, signals: u8, level: i16) -> Bench
     ensures { result ≡ aired (with_signals b signals level) }
 {
-    aired(Bench {
-        signals,
-        level,
-        ..b
-    })
+    let mut heard = b;
+    heard.signals = signals;
+    heard.level = level;
+    aired(heard)
 }
 
 // The transmitter, healthy or not.
 pub fn transmitter(b: Bench, healthy: bool) -> Bench
     ensures { result ≡ aired (with_health b healthy) }
 {
-    aired(Bench { healthy, ..b })
+    let mut told = b;
+    told.healthy = healthy;
+    aired(told)
 }
 
 // The side now in use, set by the radio itself. 23 on a single radio.
@@ -40,8 +41,11 @@ pub fn side(b: Bench, standby: bool) -> Answered<()>
             answer: Err(Refusal::SideNotAllowed),
         };
     }
+    let mut sided = b;
+    sided.standby = standby;
+    let bench = aired(sided);
     Answered {
-        bench: aired(Bench { standby, ..b }),
+        bench,
         answer: Ok(()),
     }
 }

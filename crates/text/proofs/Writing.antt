@@ -1,6 +1,6 @@
 -- A text laid over the part of a buffer that begins at a place (`laid`), and how texts written one behind the other
 -- join: `_then_`.
-use Prim.Native.Nat.{ℕ, zero, suc, ◌+◌, ◌-◌, ◌≤◌, min}
+use Prim.Native.Nat.{ℕ, zero, suc, ◌+◌, ◌-◌, ◌≤◌, ◌<◌, min}
 use mathlib.Core.Path.{◌≡◌, refl, ap, sym, ◌∙◌}
 use mathlib.Core.List.{List, [], ◌∷◌, ◌++◌, append-nil}
 use native.Mathlib.Omega.{arith}
@@ -55,6 +55,13 @@ laid {l} {t} {v} {from} {k} {n} e d f =
       place = omega (arith, room);
     }
 
+module _ (l : List ℕ) (from b : ℕ) where
+  pub byte_fits : from < length l → Written l (set l from b) from (from + 1) (b ∷ [])
+  byte_fits h = record { buffer = refl; place = omega arith }
+
+  pub byte_dropped : length l ≤ from → Written l l from (length l) (b ∷ [])
+  byte_dropped h = record { buffer = sym (set_out l from b h); place = omega arith }
+
 infixl 45 ◌then◌
 pub ◌then◌ : {l m n : List ℕ} {from mid to : ℕ} {a b : List ℕ} → Written l m from mid a → Written m n mid to b → Written l n from to (a ++ b)
 ◌then◌ {l} {from = from} {mid = mid} {a = a} {b = b} p q = record {
@@ -69,7 +76,7 @@ pub ◌then◌ : {l m n : List ℕ} {from mid to : ℕ} {a b : List ℕ} → Wri
 
 infixl 45 ◌and◌
 pub ◌and◌ : {l m n : Line} {a b : List ℕ} → Puts l m a → Puts m n b → Puts l n (a ++ b)
-◌and◌ p q = record { same_buffer = q.same_buffer ∙ p.same_buffer; text = p.text then q.text }
+◌and◌ p q = record { same_buffer = q.same_buffer ∙ p.same_buffer; same_place = q.same_place ∙ p.same_place; text = p.text then q.text }
 
 -- the promise leaves one content of the buffer and one place
 pub written_once : {l m n : List ℕ} {from r s : ℕ} {t : List ℕ} → Written l m from r t → Written l n from s t → (m ≡ n) × (r ≡ s)

@@ -19,6 +19,7 @@ impl<'a> Line<'a> {
     // An empty line at the front of a buffer.
     pub fn new(out: &'a mut [u8]) -> Line<'a>
         ensures same_buffer { result.out.ghost_name ≡ out.entry.ghost_name }
+        ensures same_place { result.out.ref_ptr ≡ out.entry.ref_ptr }
         ensures content { result.out.now ≡ out.old }
         ensures place { result.at ≡ 0 }
     {
@@ -41,10 +42,17 @@ impl<'a> Line<'a> {
         self.at = from + copy_in(&mut self.out[from..], text);
     }
 
+    // Stored straight: a number and hexadecimal are put byte by byte, and a copy of one byte costs more than they do.
+    #[tactic(auto, using(crate::proofs::Writing::byte_fits, crate::proofs::Writing::byte_dropped))]
     pub fn put_byte(&mut self, b: u8)
         ensures { Puts self.old self.new (b ∷ []) }
     {
-        self.put(&[b]);
+        if self.at < self.out.len() {
+            self.out[self.at] = b;
+            self.at += 1;
+        } else {
+            self.at = self.out.len();
+        }
     }
 
     pub fn put_bit(&mut self, b: bool)
@@ -76,7 +84,8 @@ impl<'a> Line<'a> {
     fn put_hex_byte(&mut self, b: u8)
         ensures { Puts self.old self.new (hex_byte b) }
     {
-        self.put(&[hex_digit(b / 16), hex_digit(b % 16)]);
+        self.put_byte(hex_digit(b / 16));
+        self.put_byte(hex_digit(b % 16));
     }
 
     // In hexadecimal, `-` for no byte.

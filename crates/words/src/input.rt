@@ -84,6 +84,10 @@ pub fn choice(w: &[u8], list: &[u8]) -> Option<usize>
     let mut at = past(list, 0, blank);
     for n in 0..list.len() {
         let end = past(list, at, in_word);
+        // Where one word is missing, none follows.
+        if end == at {
+            return None;
+        }
         if is_word(w, part(list, at, end)) {
             return Some(n);
         }

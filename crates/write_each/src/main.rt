@@ -2,6 +2,8 @@
 // whole lent buffer, so that the bytes behind the packet are seen too. A record that the end of the input cuts is left out.
 #![tactic(auto)]
 
+ghost use Rattle.std.specs.Prelude.{◌≤◌, length, IfOk};
+
 mod line;
 mod record;
 
@@ -12,10 +14,28 @@ use std::array;
 use std::io::{self, Read};
 use text::Line;
 
+// Reads until the buffer is full or the input ends, and answers how many bytes have come.
+// kept: in three programs, since no promise can say what a stream gives; `io::copy` was tried
+// (docs/LOOK-BACK.md).
+fn read_full(input: &mut impl Read, buffer: &mut [u8]) -> io::Result<usize>
+    ensures { IfOk result (λ n. n ≤ length buffer.old) }
+{
+    let mut n = 0;
+    // Each turn but the last brings a byte.
+    for _ in 0..buffer.len() {
+        let got = input.read(&mut buffer[n..])?;
+        if got == 0 {
+            break;
+        }
+        n += got;
+    }
+    Ok(n)
+}
+
 // The next record; none where the input ends before it is whole.
 fn next(input: &mut impl Read) -> io::Result<Option<Record>> {
     let mut record = [0u8; 32];
-    let n = io::copy(&mut input.by_ref().take(32), &mut &mut record[..])?;
+    let n = read_full(input, &mut record)?;
     Ok((n == 32).then_some(record))
 }
 

@@ -6,7 +6,7 @@ ghost use Rattle.packet.specs.Items.{some_item};
 ghost use Rattle.writer.specs.Pieces.{padded};
 ghost use Rattle.writer.specs.Writing.{rising_items, item_bytes, side_listed, fewest_words, field_of, words_of, kind_for, head_of, encode};
 
-use base::copy_in;
+use base::{bit, copy_in};
 use packet::{AUDIO, Items, Message, R2S, Side, Sqi, item};
 
 // The first byte of the packet: version 2, padding 0, extension 1, CC 0.
@@ -92,12 +92,12 @@ fn field(m: Message) -> u32
     ensures { result ≡ field_of m (rising_items m.items) }
 {
     m.ptt as u32 * 8192
-        + m.squ as u32 * 4096
+        + bit(m.squ) as u32 * 4096
         + m.id as u32 * 64
-        + m.pm as u32 * 32
-        + m.ptts as u32 * 16
-        + m.sct as u32 * 8
-        + some_item(m.items) as u32
+        + bit(m.pm) as u32 * 32
+        + bit(m.ptts) as u32 * 16
+        + bit(m.sct) as u32 * 8
+        + bit(some_item(m.items)) as u32
 }
 
 fn sqi_value(sqi: Sqi) -> u8

@@ -25,7 +25,7 @@ same_place r s p q = ap₂ (λ a i. (a, i)) (meet p.0 q.0) (meet p.1 q.1)
 
 -- it is a text put on a line
 put_once : {l m n : Line} {t : List ℕ} → Puts l m t → Puts l n t → SameLine m n
-put_once p q = let z = written_once p.text q.text in (z.1, z.0, meet p.same_buffer q.same_buffer)
+put_once p q = let z = written_once p.text q.text in (z.1, z.0, meet p.same_buffer q.same_buffer, meet p.same_place q.same_place)
 
 -- Of each call: its answer, told apart, and the bench beside it.
 answered_once : {A : Type 0} {r s : Answered A} → r.answer ≡ s.answer → r.bench ≡ s.bench → r ≡ s
@@ -151,7 +151,7 @@ tight_sending = record {
 
 pub tight_text : TightText
 tight_text = record {
-  new = λ k a r s d e p q. (meet p.1.1 q.1.1, meet p.1.0 q.1.0, meet p.0 q.0);
+  new = λ k a r s d e p q. (meet p.1.1.1 q.1.1.1, meet p.1.1.0 q.1.1.0, meet p.0 q.0, meet p.1.0 q.1.0);
   put = λ k a r s d e. put_once;
   put_byte = λ k a r s d e. put_once;
   put_bit = λ k a r s d e. put_once;
