@@ -3,7 +3,7 @@
 // kept: by hand; tried with `write!`, whose clause (`write_fmt`) says what is written after an `Ok` alone.
 ghost use Rattle.std.specs.Prelude.{◌≡◌, [], ◌∷◌, ◌<◌};
 ghost use Rattle.base.specs.Bytes.{part_of};
-ghost use Rattle.text.specs.Text.{decimal, bit_text, hex_digit, hex_byte, hex, bytes_text};
+ghost use Rattle.text.specs.Text.{Written, decimal, bit_text, hex_digit, hex_byte, hex, bytes_text};
 ghost use Rattle.text.specs.Lines.{Puts};
 
 use base::{copy_in, part};
@@ -42,17 +42,10 @@ impl<'a> Line<'a> {
         self.at = from + copy_in(&mut self.out[from..], text);
     }
 
-    // Stored straight: a number and hexadecimal are put byte by byte, and a copy of one byte costs more than they do.
-    #[tactic(auto, using(crate::proofs::Writing::byte_fits, crate::proofs::Writing::byte_dropped))]
     pub fn put_byte(&mut self, b: u8)
         ensures { Puts self.old self.new (b ∷ []) }
     {
-        if self.at < self.out.len() {
-            self.out[self.at] = b;
-            self.at += 1;
-        } else {
-            self.at = self.out.len();
-        }
+        self.at = put_at(self.out, self.at, b);
     }
 
     pub fn put_bit(&mut self, b: bool)
@@ -75,17 +68,7 @@ impl<'a> Line<'a> {
     pub fn put_hex(&mut self, bytes: &[u8])
         ensures { Puts self.old self.new (hex bytes.now) }
     {
-        self.put(b"");
-        for b in bytes {
-            self.put_hex_byte(*b);
-        }
-    }
-
-    fn put_hex_byte(&mut self, b: u8)
-        ensures { Puts self.old self.new (hex_byte b) }
-    {
-        self.put_byte(hex_digit(b / 16));
-        self.put_byte(hex_digit(b % 16));
+        self.at = put_hex_at(self.out, self.at, bytes);
     }
 
     // In hexadecimal, `-` for no byte.
@@ -98,6 +81,38 @@ impl<'a> Line<'a> {
             self.put_hex(bytes);
         }
     }
+}
+
+// One byte at a place, and the place after it.
+// kept: with the place beside the buffer, here and below; `put` would copy each byte, and a line would read its place back
+// from memory behind each.
+#[tactic(auto, using(crate::proofs::Writing::byte_fits, crate::proofs::Writing::byte_dropped))]
+fn put_at(out: &mut [u8], at: usize, b: u8) -> usize
+    ensures { Written out.old out.new at result (b ∷ []) }
+{
+    if at < out.len() {
+        out[at] = b;
+        at + 1
+    } else {
+        out.len()
+    }
+}
+
+fn put_hex_at(out: &mut [u8], at: usize, bytes: &[u8]) -> usize
+    ensures { Written out.old out.new at result (hex bytes.now) }
+{
+    let mut next = at.min(out.len());
+    for b in bytes {
+        next = put_pair_at(out, next, *b);
+    }
+    next
+}
+
+fn put_pair_at(out: &mut [u8], at: usize, b: u8) -> usize
+    ensures { Written out.old out.new at result (hex_byte b) }
+{
+    let next = put_at(out, at, hex_digit(b / 16));
+    put_at(out, next, hex_digit(b % 16))
 }
 
 fn hex_digit(d: u8) -> u8

@@ -3,11 +3,16 @@ ghost use Rattle.std.specs.Prelude.{◌≡◌, ◌<◌, ◌≤◌, IfSome};
 ghost use Rattle.words.specs.Numbers.{digit_in, number_in, half_of, byte_of, level_of};
 
 // What a digit counts, decimal or hexadecimal in either case.
-#[tactic(auto, using(crate::proofs::Digits::digits))]
+#[tactic(auto, unfolding(crate::specs::Numbers::digit_of))]
 pub fn digit(b: u8) -> Option<u8>
     ensures { (result ≡ digit_in b) × IfSome result (λ d. d < 16) }
 {
-    Some(char::from(b).to_digit(16)? as u8)
+    match b {
+        b'0'..=b'9' => Some(b - b'0'),
+        b'A'..=b'F' => Some(b - b'A' + 10),
+        b'a'..=b'f' => Some(b - b'a' + 10),
+        _ => None,
+    }
 }
 
 #[tactic(auto, using(crate::proofs::Values::counting_up), unfolding(crate::specs::Numbers::number_in))]
