@@ -62,7 +62,7 @@ pub fn packet(b: Bench, n: u8, p: &[u8]) -> Answered<Hearing>
     }
 }
 
-// Seat n, lent the eight: a copy of them all would be the dearest step of a packet.
+// Seat n, out of the eight as they are lent: `seat_of` takes a copy of them all.
 #[tactic(auto, unfolding(record::specs::Record::seat_of))]
 fn its_seat(seats: &[Seat; 8], n: u8) -> Seat
     ensures { result ≡ seat_of seats.now n }
